@@ -1,4 +1,5 @@
--- What a name section says: the names that stand before its first fault (core specification, appendix, name section).
+-- What a name section says: the names that stand before its first fault (core specification,
+-- appendix, name section).
 use Rattle.std.specs.Prelude.{ℕ, zero, suc, List, [], ◌∷◌, ◌++◌, length, Bool, true, false, ◌==◌, ◌&&◌, Option, Some, None, Result, Ok, Err, if◌then◌else◌}
 use Rattle.std.specs.Option.{option_or}
 use Rattle.form_reader.specs.Reading.{Fault, Reader, ◌>>=◌, gives_at, first_byte_at, whole}
@@ -6,7 +7,8 @@ use Rattle.form_reader.specs.ReadingNumbers.{unsigned_at, counted_bytes_at, name
 
 -- ---- vectors up to a fault
 
--- what stands at the front of some bytes before a fault, if anything does, and the bytes behind it where no fault came
+-- what stands at the front of some bytes before a fault, if anything does, and the bytes behind it
+-- where no fault came
 abbrev pub Partly : Type 0 → Type 0
 Partly A = List ℕ → Option A × Option (List ℕ)
 
@@ -108,7 +110,8 @@ functions_named names = (record no_names { functions = names.0 }, is_filled name
 abbrev pub locals_named : List (ℕ × List (ℕ × List ℕ)) × Option (List ℕ) → NameLists × Bool
 locals_named names = (record no_names { locals = names.0 }, is_filled names.1)
 
--- the names of the subsection with this id; those of locals are asked for or skipped, as is a subsection of any higher id
+-- the names of the subsection with this id; those of locals are asked for or skipped, as is a
+-- subsection of any higher id
 unfoldable pub subsection : Bool → ℕ → List ℕ → NameLists × Bool
 subsection locals id contents =
     if id == 0 then module_named (whole name_at contents)
@@ -135,6 +138,7 @@ unfoldable pub subsections_before : Bool → ℕ → List ℕ → NameLists
 subsections_before locals zero bytes = no_names
 subsections_before locals (suc n) bytes = subsection_then locals (sized_subsection_at bytes) (subsections_before locals n)
 
--- the names of a name section up to its first fault; no subsection is empty, so there are at most as many as bytes
+-- the names of a name section up to its first fault; no subsection is empty, so there are at most
+-- as many as bytes
 unfoldable pub names_of_section : Bool → List ℕ → NameLists
 names_of_section locals contents = subsections_before locals (length contents) contents

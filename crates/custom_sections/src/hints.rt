@@ -91,7 +91,8 @@ fn entries(
     Ok(Some((all, rest)))
 }
 
-/// The functions of a section of branch hints with their hints, in the order in which they stand; `None` where the contents are no such section.
+/// The functions of a section of branch hints with their hints, in the order in which they stand;
+/// `None` where the contents are no such section.
 pub fn read_hints(
     alloc: Global,
     contents: &[u8],

@@ -7,7 +7,8 @@ ghost use Rattle.custom_sections.specs.NameGrammar.{name_map, SpellsSubsections,
 ghost use Rattle.custom_sections.specs.HintReading.{hints_of_section};
 ghost use Rattle.custom_sections.specs.HintGrammar.{hint_section};
 
-/// What the grammar of the standard spells is read whole: names one after another, whatever follows, and a section without a fault.
+/// What the grammar of the standard spells is read whole: names one after another, whatever
+/// follows, and a section without a fault.
 pub fn spelled_names_are_read()
     ensures vector { (front rest : List ℕ) (names : List (ℕ × List ℕ)) → name_map.spells front names
         → names_before (front ++ rest) ≡ (names, Some rest) }
@@ -15,7 +16,8 @@ pub fn spelled_names_are_read()
         → names_of_section locals bytes ≡ joined_all all }
 {}
 
-/// Hints are read exactly where the grammar spells them: all that the contents of a section spell, and nothing where they spell no such section.
+/// Hints are read exactly where the grammar spells them: all that the contents of a section spell,
+/// and nothing where they spell no such section.
 pub fn spelled_hints_are_read()
     ensures { (bytes : List ℕ) (entries : List (ℕ × List Hint)) → hint_section.spells bytes entries ↔ (hints_of_section bytes ≡ Some entries) }
 {}

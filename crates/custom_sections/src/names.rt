@@ -22,7 +22,8 @@ const FUNCTIONS: u8 = 1;
 /// A subsection with names of locals.
 const LOCALS: u8 = 2;
 
-/// What a name section says, as far as it could be read. Names stand in the order of the section; of several for one index, the last one counts.
+/// What a name section says, as far as it could be read. Names stand in the order of the section;
+/// of several for one index, the last one counts.
 #[derive(Drop)]
 pub struct Names<'d> {
     pub module_name: Option<&'d str>,
@@ -65,7 +66,8 @@ fn add_names<'d>(
     Ok(Some(rest))
 }
 
-/// Adds a count and that many functions with the names of their locals, up to a fault; the bytes after them, where there is none.
+/// Adds a count and that many functions with the names of their locals, up to a fault; the bytes
+/// after them, where there is none.
 fn add_locals<'d>(
     alloc: Global,
     locals: &mut Vec<(u32, Vec<(u32, &'d str)>)>,
@@ -151,7 +153,8 @@ impl<'d> Names<'d> {
     }
 }
 
-/// Reads the contents of a name section, the names of locals where they are asked for. A fault ends the names, and what stands before it is kept.
+/// Reads the contents of a name section, the names of locals where they are asked for. A fault ends
+/// the names, and what stands before it is kept.
 pub fn read_names<'d>(
     alloc: Global,
     contents: &'d [u8],

@@ -1,4 +1,5 @@
-//! The parts of the format of which both sections are made (core specification, 5.2, values). A part that is not there is `None`.
+//! The parts of the format of which both sections are made (core specification, 5.2, values). A
+//! part that is not there is `None`.
 
 ghost use Rattle.std.specs.Prelude.{◌≡◌};
 ghost use Rattle.std.specs.Option.{option_map};

@@ -6,8 +6,8 @@ ghost use Rattle.devices.specs.Counter.{raised_by};
 use crate::device::{Failed, Sink};
 use std::marker::Model;
 
-/// Takes every byte, never fails, and keeps only how many it took. A contract sees that number, which stays at
-/// `u64::MAX` once it is there.
+/// Takes every byte, never fails, and keeps only how many it took. A contract sees that number,
+/// which stays at `u64::MAX` once it is there.
 #[derive(Default, Drop)]
 pub struct CountSink {
     total: u64,

@@ -29,7 +29,8 @@ pub trait Source {
     /// How many reads failed, on a counter of 64 bits that stays at its last value.
     ghost faults: { Self → ℕ };
 
-    /// How many reads were made since the first that moved no byte, if one did. A source that tells its bytes need not count.
+    /// How many reads were made since the first that moved no byte, if one did. A source that tells
+    /// its bytes need not count.
     ghost since_end: { Self → Option ℕ };
 
     /// Moves the first bytes left into the front of `buf`, and returns how many: 0 only at the end.

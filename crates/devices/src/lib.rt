@@ -1,4 +1,5 @@
-//! Where a run's bytes come from and where they go: sources, sinks, four of them in memory, and the loops over them.
+//! Where a run's bytes come from and where they go: sources, sinks, four of them in memory, and the
+//! loops over them.
 #![tactic(auto)]
 
 mod calls;

@@ -33,8 +33,8 @@ impl<'a> Model for ListSink<'a> {
 }
 
 impl<'a> ListSink<'a> {
-    /// A sink that holds nothing, with its room taken at once; `most` is not 0. Write number `k`, from 1, fails
-    /// where `k` is in `failing`.
+    /// A sink that holds nothing, with its room taken at once; `most` is not 0. Write number `k`,
+    /// from 1, fails where `k` is in `failing`.
     pub fn new(
         alloc: Global,
         room: usize,

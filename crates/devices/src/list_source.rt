@@ -28,8 +28,8 @@ impl<'a> Model for ListSource<'a> {
 }
 
 impl<'a> ListSource<'a> {
-    /// A source of these bytes, at most `piece` of them a read, which is not 0. Read number `k`, from 1, fails
-    /// where `k` is in `failing`.
+    /// A source of these bytes, at most `piece` of them a read, which is not 0. Read number `k`,
+    /// from 1, fails where `k` is in `failing`.
     pub fn new(bytes: &'a [u8], piece: usize, failing: &'a [u64]) -> Self
         requires { 0 < piece }
         ensures { result ≡ record { left = bytes.now; piece = piece; calls = no_calls failing.now } }

@@ -44,7 +44,8 @@ impl From<AllocError> for ReadStop {
 /// Reads into the empty store until the source ends, or until `most` bytes were read.
 ///
 /// # Errors
-/// `Failed` where a read failed; `OutOfMemory` where the store cannot grow. What was read stands in the store.
+/// `Failed` where a read failed; `OutOfMemory` where the store cannot grow. What was read stands in
+/// the store.
 pub fn read_all<S: Source>(source: &mut S, store: &mut Vec<u8>, most: usize) -> Result<(), ReadStop>
     requires { store.old.items ≡ [] }
 

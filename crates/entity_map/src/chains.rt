@@ -7,7 +7,8 @@ use crate::memory::OutOfMemory;
 use crate::texts::Texts;
 use std::alloc::Global;
 
-/// Numbers by the slots of their hashes: the last of each slot, and the one before each. A link is a number and one, or 0 where there is none.
+/// Numbers by the slots of their hashes: the last of each slot, and the one before each. A link is
+/// a number and one, or 0 where there is none.
 /// There are twice as many slots as there is room for numbers, so that most chains are short.
 #[derive(Drop)]
 pub(crate) struct Chains {

@@ -6,7 +6,8 @@ ghost use Rattle.std.specs.Hash.DefaultHasher as sip;
 use std::hash::{DefaultHasher, Hasher};
 use std::marker::Model;
 
-// How many bytes of names are gathered before the hasher takes them: it takes eight at once, and fewer one by one.
+// How many bytes of names are gathered before the hasher takes them: it takes eight at once, and
+// fewer one by one.
 const MOST_GATHERED: usize = 256;
 
 /// SipHash of names, one behind another. A contract sees the state of the hasher that took them.
@@ -59,7 +60,8 @@ impl NameDigest {
     }
 }
 
-// Gathers a name behind those that are gathered, and returns how many bytes are then. Where there is no room for it, the hasher takes them all.
+// Gathers a name behind those that are gathered, and returns how many bytes are then. Where there
+// is no room for it, the hasher takes them all.
 #[tactic(auto, using(crate::proofs::NamesGathered::written))]
 fn gather(
     hasher: &mut DefaultHasher,

@@ -12,7 +12,8 @@ use crate::source::Source;
 use form_data::CompositeInnerType;
 use wasm_spec::{GlobalType, MemoryType, TableType};
 
-/// The index spaces of functions, tables, memories, globals and tags: imports of the kind in order, and then what is defined.
+/// The index spaces of functions, tables, memories, globals and tags: imports of the kind in order,
+/// and then what is defined.
 #[derive(Drop)]
 pub struct Spaces {
     /// A function by the index of its type.
@@ -36,7 +37,8 @@ pub struct Lists<'f, 'd> {
 }
 
 impl<'f, 'd> Lists<'f, 'd> {
-    /// The same lists without the types; `source` is the module again, which may be lent for longer than the types are.
+    /// The same lists without the types; `source` is the module again, which may be lent for longer
+    /// than the types are.
     pub fn without_types<'s>(self, source: Source<'s, 'd>) -> Lists<'s, 'd>
         requires { source ≡ self.source }
         ensures lists { lists_of result ≡ record (lists_of self.entry) { types = [] } }

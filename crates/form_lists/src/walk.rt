@@ -15,7 +15,8 @@ use std::alloc::{AllocError, Global};
 pub struct Walk<'f, 'd, E> {
     alloc: Global,
     sections: Sections<'f, 'd>,
-    /// What the section in which it stands has left: of entries in a list, or of those that stay in the input.
+    /// What the section in which it stands has left: of entries in a list, or of those that stay in
+    /// the input.
     listed: &'f [E],
     input: InputVector<'d>,
     /// The entry at which it stands, where a form lists it.

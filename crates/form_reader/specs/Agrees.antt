@@ -8,7 +8,8 @@ use Rattle.wasm_spec.specs.Parts as part
 use Rattle.wasm_spec.specs.Parts.{Part, Joined, StopsLater, FilledStops}
 use Rattle.form_reader.specs.Reading.{Fault, Bad, Stops, Reader, Filler, and_then, ◌>>=◌, gives_at, nothing_at, stopped_at, raw_bytes_at, all_bytes_at, fill_after, choose_at, given_at, optional_at, checked_at, first_byte_at, next_byte_at, elements_at, whole, filled_at}
 
--- what is read is spelled so, what is spelled so is read, whatever follows, and reading stops where the part does
+-- what is read is spelled so, what is spelled so is read, whatever follows, and reading stops where
+-- the part does
 pub record Agrees {A : Type 0} (read : Reader A) (p : Part A) : Type 0 where
   pub found : (bytes : List ℕ) (x : A) (rest : List ℕ) → read bytes ≡ Ok (x, rest) → (front : List ℕ) × (bytes ≡ front ++ rest) × p.spells front x
   pub again : (front : List ℕ) (x : A) (rest : List ℕ) → p.spells front x → read (front ++ rest) ≡ Ok (x, rest)

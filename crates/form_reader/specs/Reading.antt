@@ -1,4 +1,5 @@
--- Reading from left to right, as functions on lists. Each part of the binary format has one, of the same name with `_at`.
+-- Reading from left to right, as functions on lists. Each part of the binary format has one, of the
+-- same name with `_at`.
 use Rattle.std.specs.Prelude.{◌≡◌, ℕ, zero, suc, ◌-◌, List, [], ◌∷◌, length, take, drop, Bool, ◌==◌, nat_lt, Option, Some, None, Result, Ok, Err, if◌then◌else◌}
 use Rattle.wasm_spec.specs.declared.operators.What.{What}
 use Rattle.form_reader.specs.declared.error.ReadError.{ReadError}

@@ -1,5 +1,6 @@
--- How parts of the grammar are read: by a function on lists, and why the two agree. Each way to join parts is here once, so that how a part
--- is read follows the definition of the part, and is one row.
+-- How parts of the grammar are read: by a function on lists, and why the two agree. Each way to
+-- join parts is here once, so that how a part is read follows the definition of the part, and is
+-- one row.
 use Rattle.std.specs.Prelude.{ℕ, List, [], Bool, Option}
 use Rattle.wasm_spec.specs.declared.operators.What.{What}
 use Rattle.wasm_spec.specs.Parts as part

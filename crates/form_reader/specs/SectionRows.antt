@@ -1,4 +1,5 @@
--- How sections are read: a row for each part of `Grammar`. Of custom sections those are taken that are none of interface types.
+-- How sections are read: a row for each part of `Grammar`. Of custom sections those are taken that
+-- are none of interface types.
 use Rattle.std.specs.Prelude.{ℕ, ◌==◌, Option, ◌||◌, nat_le, Contains, codes, bytes_eq, if◌then◌else◌}
 use Rattle.std.specs.Str.{is_utf8}
 use Rattle.wasm_spec.specs.declared.types.RefType.{RefType}

@@ -52,7 +52,8 @@ impl<'d> Entry<'d> for FunctionBody<'d> {
 }
 
 impl<'d> Cursor<'d> {
-    /// The function bodies that fill a section, and the place of their count in the input; the size of the section stands at `place`.
+    /// The function bodies that fill a section, and the place of their count in the input; the size
+    /// of the section stands at `place`.
     #[tactic(auto, unfolding(crate::specs::SectionRows::code_at, crate::specs::Reading::whole))]
     pub fn code(&mut self, alloc: Global, place: usize) -> Result<Payload<'d>, ReadError>
         requires { place + length self.now.rest.now < 2 ^ 30 }

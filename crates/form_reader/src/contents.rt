@@ -100,7 +100,8 @@ impl<'d> Cursor<'d> {
         Ok(number)
     }
 
-    /// What follows the id of a section that is not a custom one; it stands at `place`. The groups of a type section are taken.
+    /// What follows the id of a section that is not a custom one; it stands at `place`. The groups
+    /// of a type section are taken.
     #[tactic(auto, unfolding(crate::specs::SectionRows::section_contents))]
     pub fn section_contents<T: TakeGroups>(
         &mut self,

@@ -20,7 +20,8 @@ use wasm_spec::What;
 /// The id of custom sections.
 pub const CUSTOM: u8 = 0;
 
-/// Custom sections that stand one after another and stay in the input. They were read once, and are read again where they are walked.
+/// Custom sections that stand one after another and stay in the input. They were read once, and are
+/// read again where they are walked.
 #[derive(Clone, Copy)]
 pub struct InputCustoms<'d> {
     count: usize,
@@ -118,7 +119,8 @@ fn contents_in(body: &[u8]) -> Option<Custom<'_>>
     Some(Custom { name, bytes })
 }
 
-/// The custom section at the front, if one is read, and the bytes after it. It needs no memory, so the bytes alone decide.
+/// The custom section at the front, if one is read, and the bytes after it. It needs no memory, so
+/// the bytes alone decide.
 #[tactic(auto, unfolding(crate::specs::SectionRows::custom_section, crate::specs::ReadingNumbers::sized_at))]
 fn custom_at(bytes: &[u8]) -> Option<(Custom<'_>, &[u8])>
     ensures { option_map (λ x. (custom_of x.0, x.1.now)) result ≡ result_ok (custom_section.read bytes.now) }

@@ -18,7 +18,8 @@ use wasm_spec::{AbstractHeapType, HeapType, RefType};
 /// The kind of elements that are functions.
 const FUNCTION_KIND: u8 = 0x00;
 
-/// The type of elements that are given by expressions, where none is spelled: a nullable reference to a function.
+/// The type of elements that are given by expressions, where none is spelled: a nullable reference
+/// to a function.
 const FUNCREF: RefType = RefType {
     nullable: true,
     heap: HeapType::Abstract(AbstractHeapType::Func),

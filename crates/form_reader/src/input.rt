@@ -28,16 +28,19 @@ pub enum InputSection<'d> {
     Read(Payload<'d>),
 }
 
-/// Custom sections with no other one between them, which stay in the input, or one section that is no custom one.
+/// Custom sections with no other one between them, which stay in the input, or one section that is
+/// no custom one.
 #[derive(Drop)]
 pub enum InputPart<'d> {
     Customs(InputCustoms<'d>),
     Section(InputSection<'d>),
 }
 
-/// The sections of a module in order; its types, functions, tags, globals, segments and custom sections stay in the input.
+/// The sections of a module in order; its types, functions, tags, globals, segments and custom
+/// sections stay in the input.
 ///
-/// Of sections that are no custom ones there is at most one of each kind, and so at most 27 parts, whatever the input.
+/// Of sections that are no custom ones there is at most one of each kind, and so at most 27 parts,
+/// whatever the input.
 #[derive(Drop)]
 pub struct InputForm<'d> {
     pub wasm: &'d [u8],

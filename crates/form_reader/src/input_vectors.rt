@@ -52,7 +52,8 @@ pub trait InputEntry<'d> {
         ensures { Reads form (λ u. view entry.new) cursor.old.rest.now cursor.new.rest.now result };
 }
 
-/// The entries of a section, which stay in the input. They were read once, and are read again where they are walked.
+/// The entries of a section, which stay in the input. They were read once, and are read again where
+/// they are walked.
 #[derive(Clone, Copy)]
 pub struct InputVector<'d> {
     pub(crate) count: u32,
@@ -165,7 +166,8 @@ impl<'d> InputVector<'d> {
         }
     }
 
-    /// Takes the first entry, in the place of one that is no longer asked for, whose lists may be used again; at the end there is none.
+    /// Takes the first entry, in the place of one that is no longer asked for, whose lists may be
+    /// used again; at the end there is none.
     pub fn next_into<E: InputEntry<'d>>(
         &mut self,
         alloc: Global,

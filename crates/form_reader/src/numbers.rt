@@ -182,7 +182,8 @@ impl<'d> Cursor<'d> {
         }
     }
 
-    /// A signed number of 33 bits that is not negative, and so below 2^32: bit 6 of the last byte is its sign.
+    /// A signed number of 33 bits that is not negative, and so below 2^32: bit 6 of the last byte
+    /// is its sign.
     #[tactic(auto, unfolding(crate::specs::ReadingNumbers::non_negative_at))]
     fn long_non_negative_s33(&mut self) -> Result<u32, ReadError>
         ensures { Reads (non_negative_at 33) (λ x. x) self.old.rest.now self.new.rest.now result }

@@ -16,7 +16,8 @@ use crate::input::{InputPart, InputSection};
 use std::alloc::Global;
 
 impl<'d> Cursor<'d> {
-    /// A section that is no custom one and stands at a place of the input, where the next one has at least the order `next`.
+    /// A section that is no custom one and stands at a place of the input, where the next one has
+    /// at least the order `next`.
     #[tactic(auto, unfolding(crate::specs::SectionRows::section))]
     fn section<T: TakeGroups>(
         &mut self,
@@ -38,7 +39,8 @@ impl<'d> Cursor<'d> {
         }
     }
 
-    /// A run of custom sections, or another section, as `section` reads it; after that the next one has at least the new order.
+    /// A run of custom sections, or another section, as `section` reads it; after that the next one
+    /// has at least the new order.
     fn part<T: TakeGroups>(
         &mut self,
         alloc: Global,
@@ -60,7 +62,8 @@ impl<'d> Cursor<'d> {
     }
 }
 
-/// The sections up to the end of the bytes, which begin at a place of the input; the groups of types are taken.
+/// The sections up to the end of the bytes, which begin at a place of the input; the groups of
+/// types are taken.
 pub fn sections<'d, T: TakeGroups>(
     alloc: Global,
     start: usize,

@@ -13,8 +13,9 @@ const TYPES: u8 = 1;
 /// The bytes of a module's header.
 const HEADER_SIZE: usize = 8;
 
-/// The bytes of a module's type section after its id and its size (core specification, 5.5, type section), which spell its types; none where the
-/// bytes have no such section. Digests of a module's types are taken over them.
+/// The bytes of a module's type section after its id and its size (core specification, 5.5, type
+/// section), which spell its types; none where the bytes have no such section. Digests of a
+/// module's types are taken over them.
 #[tactic(auto, unfolding(crate::specs::TypeBytes::contents_of))]
 pub fn type_section_bytes<'d>(wasm: &'d [u8]) -> &'d [u8]
     ensures { result.now ≡ type_bytes wasm.now }

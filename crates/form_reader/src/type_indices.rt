@@ -1,4 +1,5 @@
-//! Functions and tags that a module defines, each by the index of its type (core specification, 5.5, function section and tag section).
+//! Functions and tags that a module defines, each by the index of its type (core specification,
+//! 5.5, function section and tag section).
 
 ghost use Rattle.std.specs.Prelude.{ℕ, refl};
 ghost use Rattle.wasm_spec.specs.Module as plain;

@@ -97,7 +97,8 @@ impl<'d> Cursor<'d> {
         Ok(HeapType::Concrete(UnpackedIndex::Module(index)))
     }
 
-    /// What follows the first byte of a reference type; that of an abstract heap type alone is its nullable reference.
+    /// What follows the first byte of a reference type; that of an abstract heap type alone is its
+    /// nullable reference.
     #[tactic(auto, unfolding(crate::specs::TypeRows::reference_after))]
     pub fn reference_after(&mut self, first: u8) -> Result<RefType, ReadError>
         ensures { Reads (reference_after first).read (λ x. x) self.old.rest.now self.new.rest.now result }

@@ -7,7 +7,8 @@ use Rattle.rule_spec.specs.Expressions.{AreGlobalsTyped}
 use Rattle.form_reader.specs.Input.{Takes}
 use Rattle.form_typing.specs.Globals.{IsGlobalTyped}
 
--- a law of the first entry and of the others: it holds of none, and of an entry and others where it holds of both
+-- a law of the first entry and of the others: it holds of none, and of an entry and others where it
+-- holds of both
 pub record ByEntry {X : Type 0} (Now Next : List X → Type 0) (One : X → Type 0) : Type 0 where
   pub none : Now []
   pub split : (x : X) (rest : List X) → Now (x ∷ rest) ↔ (One x × Next rest)

@@ -12,7 +12,8 @@ use form_data::{FunctionBody, Payload};
 use form_lists::{Lists, Section, Source, count_entries, entries_of, sections_of};
 use wasm_spec::ValType;
 
-/// Whether bodies, data segments and locals are as many as is stated or allowed. There are `count` data segments.
+/// Whether bodies, data segments and locals are as many as is stated or allowed. There are `count`
+/// data segments.
 pub fn counts_agree(lists: &Lists<'_, '_>, count: usize) -> bool
     requires { count ≡ length (segments (source_module lists.now.source)) }
     ensures { IsTrue result ↔ CountsAgree (lists_of lists.now) }

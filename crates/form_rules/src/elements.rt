@@ -1,4 +1,5 @@
-//! What the rules ask of element segments, found for all of them by one walk, since a segment that stays in the input is read again in each.
+//! What the rules ask of element segments, found for all of them by one walk, since a segment that
+//! stays in the input is read again in each.
 
 ghost use Rattle.std.specs.Prelude.{◌≡◌, ◌↔◌, IsTrue, IfOk};
 ghost use Rattle.form_data.specs.Views.{element_of};

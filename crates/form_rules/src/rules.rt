@@ -33,7 +33,8 @@ use form_typing::{expressions_hold, struct_defaults};
 use rule_spec::Rule;
 use std::alloc::{AllocError, Global};
 
-/// The listed rules, in the order in which they are checked, but for the first, which is asked while types are numbered.
+/// The listed rules, in the order in which they are checked, but for the first, which is asked
+/// while types are numbered.
 const RULES: [Rule; 9] = [
     Rule::L2,
     Rule::L3,
@@ -78,7 +79,8 @@ pub fn check(alloc: Global, form: &Form<'_>) -> Result<(), CheckError>
     }
 }
 
-/// The lists of a module that keeps the listed rules, and the pool of the names of its exports, in order. Its types are numbered, and keep the first rule.
+/// The lists of a module that keeps the listed rules, and the pool of the names of its exports, in
+/// order. Its types are numbered, and keep the first rule.
 ///
 /// # Errors
 /// Those of `check`.

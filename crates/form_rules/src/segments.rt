@@ -14,7 +14,8 @@ use form_typing::segment_is_typed;
 use rule_spec::Class;
 use std::alloc::{AllocError, Global};
 
-/// How many data segments there are, and of each rule that asks something of them, whether all of them keep it.
+/// How many data segments there are, and of each rule that asks something of them, whether all of
+/// them keep it.
 #[derive(Clone, Copy)]
 pub struct SegmentsKeep {
     pub count: usize,

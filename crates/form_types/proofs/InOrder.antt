@@ -1,5 +1,5 @@
--- Numbers that are given in rows, each from one on that is at or below the count of those given before: they come in the order of first
--- occurrence, and there are no others.
+-- Numbers that are given in rows, each from one on that is at or below the count of those given
+-- before: they come in the order of first occurrence, and there are no others.
 use Rattle.std.proofs.Common.{◌≡◌, ◌∙◌, ℕ, ◌+◌, ◌-◌, ◌<◌, ◌≤◌, inl, inr, ap, arith}
 use Rattle.std.proofs.lemmas.Bool.{cases_lt}
 use Rattle.form_types.specs.Taken.{AreGiven}

@@ -11,7 +11,8 @@ StorageIsBelow bound t = All (IsBelow bound) (storage_edges (λ i. i) t)
 unfoldable pub FieldIsBelow : ℕ → Field UnpackedIndex → Type 0
 FieldIsBelow bound f = All (IsBelow bound) (field_edges (λ i. i) f)
 
--- indices below the end of the type's own group, and a supertype at a lower index (core specification, 3.2, recursive types)
+-- indices below the end of the type's own group, and a supertype at a lower index (core
+-- specification, 3.2, recursive types)
 pub record NamesBelow (d : Declared) : Type 0 where
   pub indices : KindIsBelow d.group_end d.type.composite.inner
   pub supertype : IfSome d.type.supertype (IsBelow d.index)

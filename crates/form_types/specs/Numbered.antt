@@ -10,7 +10,8 @@ use Rattle.form_types.specs.Placed.{placed_groups, named}
 abbrev pub first_id : List NamedGroup → ℕ → ℕ
 first_id groups number = length (types_by_id (take number groups))
 
--- a declared type that has an id, and its group, stand in a list of types: the group in which each reference is the id of what it names
+-- a declared type that has an id, and its group, stand in a list of types: the group in which each
+-- reference is the id of what it names
 pub record HasItsId (t : TypesData) (declared : Home) (place id : ℕ) : Type 0 where
   pub number : ℕ
   pub below : number < length t.groups
@@ -28,7 +29,8 @@ pub record AreNumbered (m : Module) (t : TypesData) : Type 0 where
       → slice_index t.declared i ≡ slice_index t.declared (home (placed_groups m) i).start + (i - (home (placed_groups m) i).start)
   -- the group of each declared type is the group at its id
   pub held : (i : ℕ) → i < length (plain.types m) → HasItsId t (home (placed_groups m) i) i (slice_index t.declared i)
-  -- ids come in the order of first occurrence: each below that of a declared type is that of a type declared before
+  -- ids come in the order of first occurrence: each below that of a declared type is that of a type
+  -- declared before
   pub in_order : (i id : ℕ) → i < length (plain.types m) → id < slice_index t.declared i → (j : ℕ) × (j < i) × (slice_index t.declared j ≡ id)
   -- each id is that of a declared type
   pub nothing_else : (id : ℕ) → id < length (types_by_id t.groups) → (j : ℕ) × (j < length (plain.types m)) × (slice_index t.declared j ≡ id)

@@ -1,4 +1,5 @@
--- The types of a module by ids: its distinct groups (core specification, 3.1, recursive types), and the id of each declared type.
+-- The types of a module by ids: its distinct groups (core specification, 3.1, recursive types), and
+-- the id of each declared type.
 use Rattle.std.specs.Prelude.{ℕ, ◌+◌, ◌^◌, ◌<◌, All, List, [], ◌∷◌, ◌++◌, length, replicate, slice_get, IsSomeAnd}
 use Rattle.std.specs.List.{flat_map}
 use Rattle.wasm_spec.specs.declared.types.CoreTypeId.{CoreTypeId}
@@ -13,8 +14,8 @@ use Rattle.form_types.specs.Ids.{ids_from}
 abbrev pub NamedGroup : Type 0
 NamedGroup = Group UnpackedIndex UnpackedIndex
 
--- the validator's number; the distinct groups, whose members have the ids from 0 on, in which each reference is an id; and the id of each
--- declared type
+-- the validator's number; the distinct groups, whose members have the ids from 0 on, in which each
+-- reference is an id; and the id of each declared type
 pub record TypesData : Type 0 where
   pub validator : ℕ
   pub groups : List NamedGroup
@@ -41,7 +42,8 @@ abbrev pub IsIdBelow : ℕ → UnpackedIndex → Type 0
 IsIdBelow bound (Id id) = id.0 < bound
 IsIdBelow bound _ = ⊥
 
--- each reference names a type of the same group or of an earlier one, where the first member of the first has an id
+-- each reference names a type of the same group or of an earlier one, where the first member of the
+-- first has an id
 abbrev pub NameEarlier : ℕ → List NamedGroup → Type 0
 NameEarlier first [] = Unit {0}
 NameEarlier first (g ∷ gs) = All (IsIdBelow (first + length g)) (group_edges (λ r. r) g) × NameEarlier (first + length g) gs

@@ -106,7 +106,8 @@ fn names_below(end: usize, index: usize, ty: &SubType) -> bool
     kind_is_below(end, &ty.composite) && supertype_is_below(index, ty)
 }
 
-/// Whether the members of a group, the first with the index `start`, name types before its end alone, and have supertypes before themselves.
+/// Whether the members of a group, the first with the index `start`, name types before its end
+/// alone, and have supertypes before themselves.
 pub fn members_name_below(start: usize, types: &[SubType]) -> bool
     requires { start + length types.now < 2 ^ 30 }
     ensures { IsTrue result ↔ All NamesBelow (declared_from (start + length types.now) start (map sub_type_of types.now)) }

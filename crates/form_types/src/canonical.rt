@@ -20,8 +20,9 @@ use wasm_spec::{FieldType, HeapType, StorageType, UnpackedIndex, ValType};
 
 /// A group as bytes and references.
 ///
-/// As it is looked up, a reference is a place in the group or the id of an earlier type: groups that are equal by what came before them have
-/// one key. As it is made first, a reference is that which was read.
+/// As it is looked up, a reference is a place in the group or the id of an earlier type: groups
+/// that are equal by what came before them have one key. As it is made first, a reference is that
+/// which was read.
 #[derive(Drop, PartialEq, Eq)]
 pub struct CanonicalGroup {
     /// All of the group but what its references name.

@@ -24,7 +24,8 @@ use wasm_spec::{CoreTypeId, UnpackedIndex};
 /// The first id of each group that was met, by its key.
 pub type FirstIds = HashMap<CanonicalGroup, u32, Seeded>;
 
-/// A digest of the bytes that spell a module's types, from which hashes begin: groups that are chosen to collide change it as well.
+/// A digest of the bytes that spell a module's types, from which hashes begin: groups that are
+/// chosen to collide change it as well.
 pub fn seed_of(wasm: &[u8]) -> u64
     ensures { result ≡ sip.finish (fold sip.write sip.initial (type_bytes wasm.now ∷ [])) }
 {

@@ -21,7 +21,8 @@ use form_data::Form;
 use std::alloc::Global;
 
 impl Numbering {
-    /// The list of types of a module that was read, where each declared type names what it may (core specification, 3.2, recursive types).
+    /// The list of types of a module that was read, where each declared type names what it may
+    /// (core specification, 3.2, recursive types).
     pub fn into_types(self, validator: &Validator) -> Option<Types>
         requires { HasTaken Took self }
         ensures made { IfSome result (λ t. t.validator ≡ validator.now) }

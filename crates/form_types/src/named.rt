@@ -115,7 +115,8 @@ fn name_sub_type(ids: &[CoreTypeId], ty: &mut SubType)
     name_composite(ids, &mut ty.composite);
 }
 
-/// Each reference of a group's members becomes the id of what it names. `count` is how many references they have.
+/// Each reference of a group's members becomes the id of what it names. `count` is how many
+/// references they have.
 pub fn name_group(ids: &[CoreTypeId], types: &mut [SubType], count: usize)
     requires { count ≡ length (group_edges (λ i. i) (map sub_type_of types.old)) }
     ensures { map sub_type_of types.new ≡ map_group (named_index (ids_of ids.now)) (named_index (ids_of ids.now)) (map sub_type_of types.old) }

@@ -19,7 +19,8 @@ use std::alloc::{AllocError, Global};
 use std::collections::HashMap;
 use wasm_spec::CoreTypeId;
 
-/// More types than this, 2^30 - 1, are not numbered, nor types with longer lists; input that is read has none.
+/// More types than this, 2^30 - 1, are not numbered, nor types with longer lists; input that is
+/// read has none.
 const MOST_TYPES: usize = 1073741823;
 
 /// The types of a module, numbered as their groups are taken.
@@ -31,8 +32,8 @@ pub struct Numbering {
     pub(crate) seed: u64,
     /// The key of the group that was taken last; its lists are used again.
     pub(crate) key: CanonicalGroup,
-    /// Whether each type so far names types before the end of its group alone, and its supertype stands before it. From the first that does not
-    /// no type is numbered.
+    /// Whether each type so far names types before the end of its group alone, and its supertype
+    /// stands before it. From the first that does not no type is numbered.
     pub(crate) names_below: bool,
 }
 

@@ -24,7 +24,8 @@ use wasm_spec::GlobalType;
 
 /// Whether each constant expression has the class of its place.
 ///
-/// Of globals and segments this is found where they are walked: `globals_hold`, `elements_hold` and `segments_hold` say it, by `global_is_typed`, `element_is_typed` and `segment_is_typed` of each.
+/// Of globals and segments this is found where they are walked: `globals_hold`, `elements_hold` and
+/// `segments_hold` say it, by `global_is_typed`, `element_is_typed` and `segment_is_typed` of each.
 pub fn expressions_hold(
     alloc: Global,
     lists: &Lists<'_, '_>,
@@ -252,7 +253,8 @@ fn memory_offset_holds(
 
 // ---- globals
 
-/// Whether the initialiser of the global that has this index has the class of its type. It sees the globals of lower index.
+/// Whether the initialiser of the global that has this index has the class of its type. It sees the
+/// globals of lower index.
 ///
 /// `defaults` are the types' `struct_defaults`. What `stack` holds does not count.
 pub fn global_is_typed(

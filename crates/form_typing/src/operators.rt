@@ -203,7 +203,8 @@ fn array_new_fixed(
     }
 }
 
-/// `defaults` says of each type whether it is a struct type of which each field has a default: the fields are not looked at again.
+/// `defaults` says of each type whether it is a struct type of which each field has a default: the
+/// fields are not looked at again.
 fn struct_new_default(lists: &Lists<'_, '_>, defaults: &[bool], ty: u32) -> Option<Class>
     requires { defaults.now ≡ defaults_of_types (lists_of lists.now) }
     ensures { option_and_then gives result ≡ default_signature (kind_at (lists_of lists.now) ty) }

@@ -10,8 +10,8 @@ use crate::layout::Layout;
 use crate::sizes::byte_size_of_wasm_ty_in_gc_heap;
 use wasm_types::WasmArrayType;
 
-/// Where the elements of an array stand: after the header and the length, one after another. Offsets count from the
-/// start of the object.
+/// Where the elements of an array stand: after the header and the length, one after another.
+/// Offsets count from the start of the object.
 #[derive(Clone, Copy, Debug)]
 pub struct GcArrayLayout {
     /// The bytes before the elements.
@@ -53,8 +53,8 @@ impl GcArrayLayout {
         self.base_size.checked_add(i.checked_mul(self.elem_size)?)
     }
 
-    /// The size and the alignment of an array of `len` elements; `None` exactly where the size passes `u32::MAX`, or the
-    /// alignment is not a power of two.
+    /// The size and the alignment of an array of `len` elements; `None` exactly where the size
+    /// passes `u32::MAX`, or the alignment is not a power of two.
     pub fn layout(&self, len: u32) -> Option<Layout>
         ensures { let size = self.now.base_size + len * self.now.elem_size in
             SomeIff result ((size < 2 ^ 32) × IsPowerOfTwo self.now.align) (record { size = size; align = self.now.align }) }

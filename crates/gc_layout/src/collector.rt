@@ -33,8 +33,8 @@ pub trait GcTypeLayouts {
     fn exception_tag_defined_offset(&self) -> u32
         ensures { result ≡ header_size + 4 };
 
-    /// The layout of the objects of a type, shared or not; `None` exactly for function types and continuation types, which have no objects
-    /// in the heap.
+    /// The layout of the objects of a type, shared or not; `None` exactly for function types and
+    /// continuation types, which have no objects in the heap.
     ///
     /// # Errors
     /// `OffsetOverflow` exactly where the size passes `u32::MAX`, unless memory runs out first.

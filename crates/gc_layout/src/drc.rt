@@ -1,4 +1,5 @@
-//! The collector that counts references, and defers a part of the counting. Sizes, alignments and offsets are in bytes.
+//! The collector that counts references, and defers a part of the counting. Sizes, alignments and
+//! offsets are in bytes.
 
 ghost use Rattle.std.proofs.Common.{lit<};
 

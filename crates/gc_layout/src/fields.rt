@@ -22,8 +22,8 @@ pub struct GcStructLayoutField {
     pub is_gc_ref: bool,
 }
 
-/// Where the fields of a struct or an exception stand: in their order, each at the next multiple of its size, so that a
-/// subtype has the fields of its supertype at the same offsets.
+/// Where the fields of a struct or an exception stand: in their order, each at the next multiple of
+/// its size, so that a subtype has the fields of its supertype at the same offsets.
 #[derive(Drop)]
 pub struct GcStructLayout {
     /// The size of the object, in bytes, with its header: a multiple of its alignment.
@@ -46,7 +46,8 @@ impl Model for GcStructLayout {
 }
 
 impl GcStructLayout {
-    // The layout of fields after a header of `header_size` bytes. No number wraps: the first that passes 32 bits is refused.
+    // The layout of fields after a header of `header_size` bytes. No number wraps: the first that
+    // passes 32 bits is refused.
     pub(crate) fn new(
         alloc: Global,
         header_size: u32,

@@ -1,5 +1,5 @@
-//! Constants of the collector's heap that the compiler shares with the runtime. Sizes, alignments and offsets are in
-//! bytes.
+//! Constants of the collector's heap that the compiler shares with the runtime. Sizes, alignments
+//! and offsets are in bytes.
 
 /// What heap memory without an object is filled with, where that is tested.
 pub const POISON: u8 = 0x0F;

@@ -3,8 +3,9 @@
 ghost use Rattle.std.specs.Prelude.{◌≡◌, ◌≤◌, ◌↔◌, IsTrue, bit_and};
 ghost use Rattle.gc_layout.specs.Kinds.{kind_number, MatchesKind};
 
-/// The kind of an object, in the highest six bits of a number of 32 bits. A kind has the bits of each kind above it in the
-/// tree of subtypes (core specification, 3.3, heap types), so that one `and` finds whether an object is of a type.
+/// The kind of an object, in the highest six bits of a number of 32 bits. A kind has the bits of
+/// each kind above it in the tree of subtypes (core specification, 3.3, heap types), so that one
+/// `and` finds whether an object is of a type.
 #[derive(Clone, Copy, Debug, PartialEq, Eq)]
 pub enum VMGcKind {
     /// A value of the host.
@@ -60,8 +61,8 @@ impl VMGcKind {
         Self::try_from_u32(val & Self::MASK)
     }
 
-    /// Whether an object of this kind is one of the other: whether the number of this kind has every bit of that of the
-    /// other.
+    /// Whether an object of this kind is one of the other: whether the number of this kind has
+    /// every bit of that of the other.
     pub fn matches(self, other: Self) -> bool
         ensures { IsTrue result ↔ MatchesKind self other }
     {

@@ -10,9 +10,9 @@ ghost use Rattle.gc_layout.specs.declared.kind.VMGcKind.{VMGcKind};
 ghost use Rattle.wasm_types.specs.declared.aggregate.WasmArrayType.{WasmArrayType};
 ghost use Rattle.wasm_types.specs.declared.field.WasmFieldType.{WasmFieldType};
 
-/// Each field begins at the least multiple of its size that is not below the end of the fields before it, and the size is
-/// the least multiple of the alignment that is not below the end of all. Elements begin at the least multiple of their size
-/// that is not below the end of the length.
+/// Each field begins at the least multiple of its size that is not below the end of the fields
+/// before it, and the size is the least multiple of the alignment that is not below the end of all.
+/// Elements begin at the least multiple of their size that is not below the end of the length.
 pub fn offsets_are_least_multiples()
     ensures offset { (header : ℕ) (fields : List WasmFieldType) (is_exception : Bool) (i : ℕ) → i < length fields
         → IsLeastMultiple (size_at fields i) (fields_end header (take i fields)) (offset_at (fields_layout header fields is_exception) i) }
@@ -34,8 +34,8 @@ pub fn fields_never_overlap()
         ≤ (fields_layout header fields is_exception).size }
 {}
 
-/// After one header, lists of fields whose first sizes are the same have the same first offsets: so a subtype has the
-/// fields of its supertype where the supertype has them.
+/// After one header, lists of fields whose first sizes are the same have the same first offsets: so
+/// a subtype has the fields of its supertype where the supertype has them.
 pub fn prefixes_agree()
     ensures { (header : ℕ) (fields others : List WasmFieldType) (is_exception : Bool) (n : ℕ)
         → map field_size (take n fields) ≡ map field_size (take n others)
@@ -52,8 +52,8 @@ pub fn alignments_are_greatest()
     ensures power_of_two { (fields : List WasmFieldType) → IsPowerOfTwo (fields_align fields) }
 {}
 
-/// By the bits of their numbers the kinds are ordered, and as the tree of subtypes orders them: arrays and structs are below
-/// eq, and eq below any; host values and exceptions stand apart.
+/// By the bits of their numbers the kinds are ordered, and as the tree of subtypes orders them:
+/// arrays and structs are below eq, and eq below any; host values and exceptions stand apart.
 pub fn kinds_are_a_tree()
     ensures reflexive { (a : VMGcKind) → MatchesKind a a }
     ensures transitive { (a b c : VMGcKind) → MatchesKind a b → MatchesKind b c → MatchesKind a c }

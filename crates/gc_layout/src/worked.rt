@@ -10,7 +10,8 @@ ghost use Rattle.wasm_types.specs.declared.heap.WasmHeapType.TheVariants.{Any, I
 
 use wasm_types::EngineOrModuleTypeIndex;
 
-/// Fields after headers of 8 and of 24 bytes. Each stands at the least multiple of its size; nothing wraps at 2^32.
+/// Fields after headers of 8 and of 24 bytes. Each stands at the least multiple of its size;
+/// nothing wraps at 2^32.
 pub fn worked_fields()
     ensures none { struct_layout_of 8 [] ≡ record { size = 8; align = 8; fields = []; is_exception = false } }
     ensures small_after_large { struct_layout_of 8 (fields_of (I8 ∷ Val I32 ∷ I16 ∷ Val I64 ∷ [])) ≡ record {

@@ -35,7 +35,8 @@ in_order es = map entry_definition (by_number es)
 abbrev pub is_below : ℕ → Entry → Bool
 is_below n e = nat_lt e.1.0 n
 
--- a map finds under two names what its definitions in order have there; no two stand under the same names, and their numbers are below the count
+-- a map finds under two names what its definitions in order have there; no two stand under the same
+-- names, and their numbers are below the count
 pub record AreKept (es : List Entry) : Type 0 where
   pub numbers : All (λ (e : Entry). e.1.0 < length es) es
   pub finds : (n : Names) → lookup (is_at (ordered.ghosts.cmp n)) es ≡ found (in_order es) (names_of n)

@@ -57,7 +57,8 @@ HaveTypesOf r key ds = IfSome (count_of r key) (λ count. All (λ (d : Definitio
 abbrev pub IsExportResolved : ModuleRecord → Atom × EntityIndex → Type 0
 IsExportResolved m e = IsSome (text_of m e.0) × IsSome (entity_type m e.1)
 
--- an export as a definition under the name of a module and its own; none where its text or its entity is missing
+-- an export as a definition under the name of a module and its own; none where its text or its
+-- entity is missing
 abbrev pub export_of : ModuleRecord → List ℕ → Atom × EntityIndex → Option Definition
 export_of m from e = option_and_then (λ (own : List ℕ). option_map (λ (t : EntityType). ((from, own), t)) (entity_type m e.1)) (text_of m e.0)
 
@@ -78,7 +79,8 @@ exported registry key m from = engine_definitions (registry_of registry) (key_nu
 abbrev pub wanted : RegistryState → ModuleKey → Record → List Definition
 wanted registry key m = engine_definitions (registry_of registry) (key_number key) (wants_of (record_of m))
 
--- names of exports are in the pool, the module has their entities, and where the key is held these name types of the module alone
+-- names of exports are in the pool, the module has their entities, and where the key is held these
+-- name types of the module alone
 pub record CanExport (registry : RegistryState) (key : ModuleKey) (m : Record) (from : List ℕ) : Type 0 where
   pub resolved : All (IsExportResolved (record_of m)) (record_of m).exports
   pub types : HaveTypesOf (registry_of registry) (key_number key) (exports_of (record_of m) from)

@@ -1,4 +1,5 @@
--- What it means that a definition matches an import (core specification, 3.3, external types), where types match only where they are equal.
+-- What it means that a definition matches an import (core specification, 3.3, external types),
+-- where types match only where they are equal.
 use Rattle.std.specs.Prelude.{◌≡◌, ◌≤◌, ⊤, ℕ, Option, Some, None}
 use Rattle.wasm_types.specs.declared.entity.EntityType.{EntityType}
 use Rattle.wasm_types.specs.declared.entity.EntityType.TheVariants as entity

@@ -1,4 +1,5 @@
--- Which definition each import is given, or which import fails first, and why (core specification, 4.7, instantiation).
+-- Which definition each import is given, or which import fails first, and why (core specification,
+-- 4.7, instantiation).
 use Rattle.std.specs.Prelude.{◌≡◌, ◌<◌, ◌⊎◌, ℕ, List, [], ◌∷◌, map, slice_get, Option, Some, None, Result, Ok, Err, IsSomeAnd}
 use Rattle.std.specs.Global.{Global}
 use Rattle.std.specs.List.{enumerate_from, AllZip}
@@ -81,7 +82,8 @@ pub record IsMissing (ds wants : List Definition) (i : ℕ) : Type 0 where
   pub reached : IsReached ds wants i want
   pub missing : found ds want.0 ≡ None
 
--- the import at a place is the first that fails, and what is defined under its names breaks a rule, the first in the table
+-- the import at a place is the first that fails, and what is defined under its names breaks a rule,
+-- the first in the table
 pub record IsMismatched (ds wants : List Definition) (i : ℕ) (rule : Mismatch) : Type 0 where
   pub want : Definition
   pub reached : IsReached ds wants i want

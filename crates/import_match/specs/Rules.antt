@@ -1,4 +1,5 @@
--- When a definition matches an import, rule by rule (core specification, 3.3, external types). Types are compared by equality.
+-- When a definition matches an import, rule by rule (core specification, 3.3, external types).
+-- Types are compared by equality.
 use Rattle.std.specs.Prelude.{ℕ, Bool, true, false, not, nat_eq, nat_le, List, [], ◌∷◌, Option, Some, None, IsSome, All, find}
 use Rattle.std.specs.Bool.{beq}
 use Rattle.std.specs.Option.{option_map}
@@ -36,7 +37,8 @@ HasEngineTypes t = All (λ e. IsSome (engine_index e)) (types_in t)
 abbrev pub Rule : Type 0
 Rule = Bool × Mismatch
 
--- whether a greatest size is within the one that is asked for: where none is asked for, any is; where one is, none is not
+-- whether a greatest size is within the one that is asked for: where none is asked for, any is;
+-- where one is, none is not
 abbrev pub is_within : Option ℕ → Option ℕ → Bool
 is_within have None = true
 is_within None (Some want) = false

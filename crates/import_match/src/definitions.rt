@@ -15,8 +15,9 @@ use wasm_types::EntityType;
 /// The number and the type of each definition, by its names.
 type Numbered = BTreeMap<Names, (usize, EntityType)>;
 
-/// Definitions in order, no two under the same names. They are found in a map that is ordered by the names, so that whoever chooses names, a look-up
-/// compares them with no more than a few for each doubling of the count.
+/// Definitions in order, no two under the same names. They are found in a map that is ordered by
+/// the names, so that whoever chooses names, a look-up compares them with no more than a few for
+/// each doubling of the count.
 #[derive(Drop)]
 pub(crate) struct Definitions {
     numbered: Numbered,
@@ -104,7 +105,8 @@ fn insert(numbered: &mut Numbered, names: Names, ty: EntityType) -> Result<usize
     Ok(number)
 }
 
-/// Inserts definitions under names that are new, in order. Where memory ends, those that stood before are the entries whose numbers are below their count.
+/// Inserts definitions under names that are new, in order. Where memory ends, those that stood
+/// before are the entries whose numbers are below their count.
 fn insert_all(numbered: &mut Numbered, planned: Vec<(Names, EntityType)>) -> Result<(), AllocError>
     requires kept { AreKept numbered.old.entries }
     requires new { All (λ (d : Definition). found (in_order numbered.old.entries) d.0 ≡ None) (map definition_of planned.items) }

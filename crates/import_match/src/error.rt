@@ -6,7 +6,8 @@ use entity_map::OutOfMemory;
 use std::alloc::{AllocError, AllocFailed};
 use thiserror::Error;
 
-/// The rule of matching that a definition breaks: one variant a rule, in the order in which the rules are asked (core specification, 3.3, external types).
+/// The rule of matching that a definition breaks: one variant a rule, in the order in which the
+/// rules are asked (core specification, 3.3, external types).
 #[derive(Clone, Copy, Debug, Drop, PartialEq, Eq, Error)]
 pub enum Mismatch {
     /// A definition of another kind.

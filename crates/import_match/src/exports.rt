@@ -16,7 +16,8 @@ use type_registry::{ModuleKey, TypeRegistry};
 use wasm_module::Module;
 use wasm_types::EntityType;
 
-/// The definitions that the exports of a held module make, in order, as long as nothing is defined under the names of any.
+/// The definitions that the exports of a held module make, in order, as long as nothing is defined
+/// under the names of any.
 pub(crate) fn planned_exports(
     alloc: Global,
     definitions: &Definitions,

@@ -37,7 +37,8 @@ fn answer(
     }
 }
 
-/// The number of the definition of the import at a place of a held module. The names give room for those of the import.
+/// The number of the definition of the import at a place of a held module. The names give room for
+/// those of the import.
 pub(crate) fn resolve_at(
     definitions: &Definitions,
     registry: &TypeRegistry,

@@ -19,7 +19,8 @@ ghost use Rattle.import_match.specs.ModuleTypes.{types_of};
 use type_registry::same_law;
 use wasm_module::Module;
 
-/// A definition breaks no rule exactly where it matches: types, index types, sharing, page sizes and mutability are equal, and sizes are within those that are asked for.
+/// A definition breaks no rule exactly where it matches: types, index types, sharing, page sizes
+/// and mutability are equal, and sizes are within those that are asked for.
 pub fn matching_law()
     ensures { (have want : EntityType) → (mismatch have want ≡ None) ↔ Matches have want }
 {}
@@ -30,7 +31,8 @@ pub fn definition_law()
         → (found ds n ≡ Some (i, t)) ↔ (slice_get ds i ≡ Some (n, t)) }
 {}
 
-/// While two modules are held in one registry, a function of one matches an import of the other exactly where their types are equal by group and place.
+/// While two modules are held in one registry, a function of one matches an import of the other
+/// exactly where their types are equal by group and place.
 pub fn function_law()
     ensures { (r : Registry) (a b : ℕ) (l k : TypeList) → Listed l → Listed k → Stands r a l → Stands r b k
         → (i j : ℕ) → i < length l.types → j < length k.types
@@ -40,7 +42,8 @@ pub fn function_law()
     same_law();
 }
 
-/// Where all types that a module names are among the first so many of its list, so are those that its exports and its imports name.
+/// Where all types that a module names are among the first so many of its list, so are those that
+/// its exports and its imports name.
 pub fn named_types_law()
     ensures exports { (m : Module) (from : List ℕ) (count : ℕ) → All (IsTypeBelow count) (types_of m)
         → All (λ (d : Definition). All (IsTypeBelow count) (types_in d.1)) (exports_of (record_of m) from) }

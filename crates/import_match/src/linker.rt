@@ -21,8 +21,9 @@ use type_registry::{ModuleKey, TypeRegistry};
 use wasm_module::Module;
 use wasm_types::EntityType;
 
-/// Named definitions, in order, from which the imports of modules are resolved. Their types are those of one engine: the caller gives one registry throughout, and keeps
-/// the modules held whose types stand here, so that equal indices are equal types.
+/// Named definitions, in order, from which the imports of modules are resolved. Their types are
+/// those of one engine: the caller gives one registry throughout, and keeps the modules held whose
+/// types stand here, so that equal indices are equal types.
 #[derive(Drop)]
 pub struct Linker {
     alloc: Global,
@@ -61,8 +62,8 @@ impl Linker {
         self.definitions.len()
     }
 
-    /// Defines an entity of this type under the name of a module and its own, and gives the number of the definition, counted from 0. The types that it names
-    /// must be the engine's.
+    /// Defines an entity of this type under the name of a module and its own, and gives the number
+    /// of the definition, counted from 0. The types that it names must be the engine's.
     ///
     /// # Errors
     /// `Duplicate` where something is defined under these names; `OutOfMemory`. The linker is unchanged then.
@@ -81,8 +82,8 @@ impl Linker {
     /// Defines each export of a held module under the name `as_module` and its own, in order.
     ///
     /// # Errors
-    /// `NotHeld` where the registry holds no module under the key; `Duplicate` where something is defined under the names of one of the exports; `OutOfMemory`. The
-    /// linker is unchanged then.
+    /// `NotHeld` where the registry holds no module under the key; `Duplicate` where something is
+    /// defined under the names of one of the exports; `OutOfMemory`. The linker is unchanged then.
     pub fn define_exports(
         &mut self,
         registry: &TypeRegistry,
@@ -113,11 +114,13 @@ impl Linker {
         Ok(())
     }
 
-    /// The number of the definition of each import of a held module, in order: the one under its two names, which matches it.
+    /// The number of the definition of each import of a held module, in order: the one under its
+    /// two names, which matches it.
     ///
     /// # Errors
-    /// `NotHeld` where the registry holds no module under the key, before all others; of the first import that fails `Missing` with its place where nothing is defined under its
-    /// names, and else `Mismatch` with its place and the first rule that its definition breaks; `OutOfMemory`.
+    /// `NotHeld` where the registry holds no module under the key, before all others; of the first
+    /// import that fails `Missing` with its place where nothing is defined under its names, and
+    /// else `Mismatch` with its place and the first rule that its definition breaks; `OutOfMemory`.
     pub fn resolve(
         &self,
         alloc: Global,
@@ -147,7 +150,8 @@ impl Linker {
         resolve_imports(alloc, definitions, registry, key, module)
     }
 
-    /// The number of the definition of one import of a held module, by its place: the one under its two names, which matches it.
+    /// The number of the definition of one import of a held module, by its place: the one under its
+    /// two names, which matches it.
     ///
     /// # Errors
     /// `NotHeld`, `Missing` and `Mismatch` as by `resolve`, of this import alone; `OutOfMemory`.

@@ -7,7 +7,8 @@ ghost use Rattle.import_match.specs.Digest.{digest_of};
 use std::alloc::{AllocError, Global};
 use std::hash::{DefaultHasher, Hasher};
 
-/// The name of a module, and the name of an entity there. They are ordered by their digests, and where these are equal by their bytes.
+/// The name of a module, and the name of an entity there. They are ordered by their digests, and
+/// where these are equal by their bytes.
 #[derive(Drop, PartialEq, Eq, PartialOrd, Ord)]
 pub(crate) struct Names {
     digest: u64,

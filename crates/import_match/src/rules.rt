@@ -77,8 +77,9 @@ fn tag_rules(have: &Tag, want: &Tag) -> Option<Mismatch>
     first_broken(&[(have.signature == want.signature, Mismatch::TagType)])
 }
 
-/// The first rule that a definition breaks that is given for an import, in the order of [`Mismatch`]; none where it matches (core specification, 3.3,
-/// external types). Types are compared by the engine's indices, so subtypes do not match.
+/// The first rule that a definition breaks that is given for an import, in the order of
+/// [`Mismatch`]; none where it matches (core specification, 3.3, external types). Types are
+/// compared by the engine's indices, so subtypes do not match.
 pub fn match_entity(have: &EntityType, want: &EntityType) -> Option<Mismatch>
     requires have { HasEngineTypes have.now }
     requires want { HasEngineTypes want.now }

@@ -1,4 +1,5 @@
-//! Worked examples of the definitions. Each function has an empty body; its clauses state what a definition gives.
+//! Worked examples of the definitions. Each function has an empty body; its clauses state what a
+//! definition gives.
 
 ghost use Rattle.std.specs.Prelude.{◌≡◌, [], ◌∷◌, true, false, Some, None, Ok, Err};
 ghost use Rattle.import_match.specs.declared.error.LinkError.TheVariants as refused;

@@ -1,4 +1,5 @@
-//! Tests of single calls on imports: each rule of matching on both sides of its edge, and a linker's definitions.
+//! Tests of single calls on imports: each rule of matching on both sides of its edge, and a
+//! linker's definitions.
 #![tactic(auto)]
 
 #[cfg(test)]

@@ -242,7 +242,8 @@ fn the_first_broken_rule_is_named(rt: HostRuntime) {
     }
 }
 
-// Of what is equal neither side may be more: the three rules of memories, the two of tables and of globals the other way.
+// Of what is equal neither side may be more: the three rules of memories, the two of tables and of
+// globals the other way.
 #[test]
 fn rules_of_equal_parts_have_no_sides(rt: HostRuntime) {
     for broken in 0..8 {

@@ -19,7 +19,8 @@ image_memories m = map image_memory (drop m.num_imported_memories m.memories)
 abbrev pub image_options : Tunables → ℕ → ℕ → ImageOptions
 image_options tunables page_size max_image = record { enabled = tunables.memory_init_cow; page = page_size; max_image = max_image }
 
--- memories begin as images exactly where the image rule holds; the alignment is then the size of their pages, and otherwise there is none
+-- memories begin as images exactly where the image rule holds; the alignment is then the size of
+-- their pages, and otherwise there is none
 pub record BeginsByRule (options : ImageOptions) (old new : ModuleTranslation) : Type 0 where
   pub segmented : IsSegmented new.module.memory_initialization → (IsStatic options old.module.num_imported_memories (image_memories old.module) (initializers_of old) → ⊥) × (new.data_align ≡ None)
   pub images : (IsSegmented new.module.memory_initialization → ⊥) → IsStatic options old.module.num_imported_memories (image_memories old.module) (initializers_of old) × (new.data_align ≡ Some options.page)
@@ -42,7 +43,8 @@ HasWholeRanges page images ranges = (m start index : ℕ) → slice_get images m
 
 -- ---- how many bytes the runtime data have
 
--- a plan of memories has runtime data of so many bytes as a fact says; there is such a plan, and all have the same runtime data
+-- a plan of memories has runtime data of so many bytes as a fact says; there is such a plan, and
+-- all have the same runtime data
 pub record HasRuntimeSize (options : ImageOptions) (imports : ℕ) (memories : List ImageMemory) (active : List ActiveSegment)
     (passive : List (List ℕ)) (P : ℕ → Type 0) : Type 0 where
   pub plan : MemoryPlan
@@ -56,7 +58,8 @@ WillHaveRuntimeSize options t P =
 
 -- ---- the steps
 
--- images where the image rule holds, and none where it does not; the runtime data have fewer than 2 ^ 32 bytes
+-- images where the image rule holds, and none where it does not; the runtime data have fewer than
+-- 2 ^ 32 bytes
 abbrev pub AreSized : ImageOptions → ModuleTranslation → Option (Vec (Option Image)) → Type 0
 AreSized options t None = (IsStatic options t.module.num_imported_memories (image_memories t.module) (initializers_of t) → ⊥) × (data_total t < 2 ^ 32)
 AreSized options t (Some images) = IsStatic options t.module.num_imported_memories (image_memories t.module) (initializers_of t)

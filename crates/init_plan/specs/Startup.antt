@@ -1,4 +1,5 @@
--- Startup of a translation, and how a call raises it: a type that stands is kept, and otherwise it is the one that the builder gives.
+-- Startup of a translation, and how a call raises it: a type that stands is kept, and otherwise it
+-- is the one that the builder gives.
 use Rattle.wasm_index.specs.Index.{index_of}
 use Rattle.wasm_types.specs.declared.index.EngineOrModuleTypeIndex.{EngineOrModuleTypeIndex}
 use Rattle.wasm_types.specs.declared.index.EngineOrModuleTypeIndex.TheVariants.{Module}

@@ -132,15 +132,16 @@ abbrev pub IsSegmented : MemoryInitialization → Type 0
 IsSegmented initialization.Segmented = Unit {0}
 IsSegmented (initialization.Static images) = ⊥
 
--- passive segments are found with their bytes: the first at an index of the runtime data, and each other one at the index after that of the one before
+-- passive segments are found with their bytes: the first at an index of the runtime data, and each
+-- other one at the index after that of the one before
 abbrev pub FindsInOrder : List (List ℕ) → (ℕ → Option ℕ) → ℕ → List (ℕ × List ℕ) → Type 0
 FindsInOrder runtime found index [] = Unit {0}
 FindsInOrder runtime found index (p ∷ ps) = (found p.0 ≡ Some index) × (slice_get runtime index ≡ Some p.1) × FindsInOrder runtime found (index + 1) ps
 
 -- ---- what stays
 
--- of a translation, the plan of memories writes how memories begin, the ranges of runtime data, these data, where passive segments find
--- theirs, the segments, and the alignment of images
+-- of a translation, the plan of memories writes how memories begin, the ranges of runtime data,
+-- these data, where passive segments find theirs, the segments, and the alignment of images
 abbrev pub OnlyMemoriesChange : ModuleTranslation → ModuleTranslation → Type 0
 OnlyMemoriesChange old new = new ≡ record old {
   «module» = record old.module { memory_initialization = new.module.memory_initialization; runtime_data = new.module.runtime_data };

@@ -1,4 +1,5 @@
-//! What a translation holds of a module's lists has the phases of these lists: what a plan leaves of the translation, it leaves of the module.
+//! What a translation holds of a module's lists has the phases of these lists: what a plan leaves
+//! of the translation, it leaves of the module.
 
 ghost use Rattle.std.specs.Prelude.{◌≡◌, map};
 ghost use Rattle.wasm_spec.specs.Module.{Module, defined_memories};
@@ -15,7 +16,8 @@ ghost use Rattle.init_plan.specs.Tables.{tables_of, elements_of};
 ghost use Rattle.init_plan.specs.Held.{plan_of_globals, HoldsMemories, HoldsTables, HoldsGlobals};
 ghost use Rattle.init_plan.specs.Agreement.{AgreesOnElements, AgreesInAll};
 
-/// Where a translation holds a module's lists, a plan that agrees with the translation agrees with the module.
+/// Where a translation holds a module's lists, a plan that agrees with the translation agrees with
+/// the module.
 pub fn held_agreement_laws()
     ensures memories { (m : Module) (t : ModuleTranslation) → HoldsMemories m t → image_memories t.module ≡ map image_memory_of (defined_memories m) }
     ensures data { (m : Module) (t : ModuleTranslation) (plan : MemoryPlan) → HoldsMemories m t

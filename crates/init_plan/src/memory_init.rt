@@ -23,7 +23,8 @@ use std::mem;
 use wasm_module::{MemoryInitialization, MemoryInitializer};
 
 impl<'d> ModuleTranslation<'d> {
-    // The images that the memories begin as, where the image rule holds, and none where every segment is kept; the runtime data fit 32 bits.
+    // The images that the memories begin as, where the image rule holds, and none where every
+    // segment is kept; the runtime data fit 32 bits.
     // Where images are off nothing is allocated.
     pub(crate) fn sized_images(
         &self,
@@ -54,7 +55,8 @@ impl<'d> ModuleTranslation<'d> {
         }
     }
 
-    // Plans the active data segments, all but the startup that they need. The memories begin as these images, where there are some.
+    // Plans the active data segments, all but the startup that they need. The memories begin as
+    // these images, where there are some.
     pub(crate) fn plan_memories(
         &mut self,
         alloc: Global,
@@ -65,7 +67,8 @@ impl<'d> ModuleTranslation<'d> {
         requires page_size { IsPowerOfTwo settings.page_size }
         requires sized { AreSized (options_of settings) self.old images }
 
-        // The plan is that of the definitions: images alone where the image rule holds, and else every segment, in order.
+        // The plan is that of the definitions: images alone where the image rule holds, and else
+        // every segment, in order.
         ensures planned { OnOk result (IsMemoryPlan (options_of settings) self.old.module.num_imported_memories
             (image_memories self.old.module) (initializers_of self.old) (passive_bytes self.old) (memory_plan_of self.new)) }
         ensures begins { OnOk result (BeginsByRule (options_of settings) self.old self.new) }
@@ -78,7 +81,8 @@ impl<'d> ModuleTranslation<'d> {
         // Runtime data stand end to end from 0.
         ensures ranges { OnOk result (ranges_of self.new.module ≡ ranges_from 0 (map length (memory_plan_of self.new).runtime)) }
 
-        // Each passive segment is found with its bytes, in order after the other runtime data, and no other is found.
+        // Each passive segment is found with its bytes, in order after the other runtime data, and
+        // no other is found.
         ensures found { let plan = memory_plan_of self.new in let ps = passive_data_of self.old in
             OnOk result (FindsInOrder plan.runtime plan.passive (length plan.runtime - length ps) ps) }
         ensures others { OnOk result ((index : ℕ) → ¬ Contains (map (λ p. p.0) (passive_data_of self.old)) index →

@@ -23,13 +23,14 @@ use wasm_module::MemoryInitialization;
 use wasm_types::Tunables;
 
 impl ModuleTranslation<'_> {
-    /// Plans the active data segments: images that the memories begin as, or what is kept to be written, and the runtime data that
-    /// holds the bytes. Pages of images are of `page_size` bytes, and an extent below `max_image` bytes is always dense enough. Startup
-    /// is raised by what is kept and by images. After an error the translation may only be dropped.
+    /// Plans the active data segments: images that the memories begin as, or what is kept to be
+    /// written, and the runtime data that holds the bytes. Pages of images are of `page_size`
+    /// bytes, and an extent below `max_image` bytes is always dense enough. Startup is raised by
+    /// what is kept and by images. After an error the translation may only be dropped.
     ///
     /// # Errors
-    /// `TooLarge` where the runtime data pass 4294967295 bytes, before an image is made and whatever the builder is; `Poisoned` where the
-    /// builder is; `OutOfMemory`.
+    /// `TooLarge` where the runtime data pass 4294967295 bytes, before an image is made and
+    /// whatever the builder is; `Poisoned` where the builder is; `OutOfMemory`.
     pub fn finalize_memory_init(
         &mut self,
         alloc: Global,
@@ -42,7 +43,8 @@ impl ModuleTranslation<'_> {
         requires page_size { IsPowerOfTwo page_size }
         requires room { types.old.is_poisoned ≡ false → length (starts (builder_view types.old)).built.types < u32.MAX }
 
-        // The plan is that of the definitions: images alone where the image rule holds, and otherwise every segment, in order.
+        // The plan is that of the definitions: images alone where the image rule holds, and
+        // otherwise every segment, in order.
         ensures planned { OnOk result (IsMemoryPlan (image_options tunables.now page_size max_image) self.old.module.num_imported_memories
             (image_memories self.old.module) (initializers_of self.old) (passive_bytes self.old) (memory_plan_of self.new)) }
         ensures begins { OnOk result (BeginsByRule (image_options tunables.now page_size max_image) self.old self.new) }
@@ -60,13 +62,15 @@ impl ModuleTranslation<'_> {
         ensures ranges { OnOk result (ranges_of self.new.module ≡ ranges_from 0 (map length (memory_plan_of self.new).runtime)) }
         ensures whole_ranges { OnOk result (HasWholeRanges page_size (memory_plan_of self.new).images (ranges_of self.new.module)) }
 
-        // Each passive segment is found with its bytes, in order after the other runtime data, and no other is found.
+        // Each passive segment is found with its bytes, in order after the other runtime data, and
+        // no other is found.
         ensures found { let plan = memory_plan_of self.new in let ps = passive_data_of self.old in
             OnOk result (FindsInOrder plan.runtime plan.passive (length plan.runtime - length ps) ps) }
         ensures others { OnOk result ((index : ℕ) → ¬ Contains (map (λ p. p.0) (passive_data_of self.old)) index →
             (memory_plan_of self.new).passive index ≡ None) }
 
-        // Startup is raised by what is kept and by images, and the builder gains its type where it is raised from none.
+        // Startup is raised by what is kept and by images, and the builder gains its type where it
+        // is raised from none.
         ensures startup { let kind = raised_by_memories (memory_plan_of self.new) (startup_kind self.old.module.startup) in
             OnOk result (self.new.module.startup ≡ raised kind self.old.module.startup (builder_view types.old)) }
         ensures types { let kind = raised_by_memories (memory_plan_of self.new) (startup_kind self.old.module.startup) in
@@ -75,7 +79,8 @@ impl ModuleTranslation<'_> {
         ensures same { OnOk result (OnlyMemoryInitChanges self.old self.new) }
         ensures tables_ready { TableHalfIsReady self.old → OnOk result (TableHalfIsReady self.new) }
 
-        // Too large exactly where the runtime data of the plan pass 4294967295 bytes, whatever the builder is.
+        // Too large exactly where the runtime data of the plan pass 4294967295 bytes, whatever the
+        // builder is.
         ensures fits { OnOk result (sum_by length (memory_plan_of self.new).runtime < 2 ^ 32) }
         ensures too_large { result ≡ Err PlanError.TooLarge → WillHaveRuntimeSize (image_options tunables.now page_size max_image) self.old (λ size. 2 ^ 32 ≤ size) }
         ensures large { WillHaveRuntimeSize (image_options tunables.now page_size max_image) self.old (λ size. 2 ^ 32 ≤ size)
@@ -100,7 +105,8 @@ impl ModuleTranslation<'_> {
             page_size,
             max_image,
         };
-        // Data that are too large are reported whatever the builder is. Where images are off nothing was allocated so far.
+        // Data that are too large are reported whatever the builder is. Where images are off
+        // nothing was allocated so far.
         let images = self.sized_images(alloc, settings)?;
         if types.is_poisoned() {
             return Err(PlanError::Poisoned);
@@ -110,7 +116,8 @@ impl ModuleTranslation<'_> {
         Ok(())
     }
 
-    // Startup, where the memories are planned: segments that are kept are always written, and images are laid where memories need them.
+    // Startup, where the memories are planned: segments that are kept are always written, and
+    // images are laid where memories need them.
     fn raise_startup_by_memories(
         &mut self,
         types: &mut ModuleTypesBuilder,

@@ -13,7 +13,8 @@ use wasm_module::ModuleStartup;
 use wasm_types::EngineOrModuleTypeIndex;
 
 impl ModuleTranslation<'_> {
-    /// The module needs a startup function that always runs. A type of startup that stands is kept; otherwise the builder gives it.
+    /// The module needs a startup function that always runs. A type of startup that stands is kept;
+    /// otherwise the builder gives it.
     ///
     /// # Errors
     /// `Poisoned` where the builder is, and `OutOfMemory`, after which it is.
@@ -29,7 +30,8 @@ impl ModuleTranslation<'_> {
         Ok(())
     }
 
-    /// The module needs a startup function where its memories do not begin as their images, unless one stands already.
+    /// The module needs a startup function where its memories do not begin as their images, unless
+    /// one stands already.
     ///
     /// # Errors
     /// `Poisoned` where the builder is, and `OutOfMemory`, after which it is.

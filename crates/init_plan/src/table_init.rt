@@ -20,8 +20,9 @@ use wasm_module::{TableInitialValue, TableInitialization};
 use wasm_types::Tunables;
 
 impl ModuleTranslation<'_> {
-    /// Plans the tables: the images that they begin with, and the initialisers and element segments that are kept to be written. Where
-    /// any is kept, the module needs a startup function that always runs. After an error the translation may only be dropped.
+    /// Plans the tables: the images that they begin with, and the initialisers and element segments
+    /// that are kept to be written. Where any is kept, the module needs a startup function that
+    /// always runs. After an error the translation may only be dropped.
     ///
     /// # Errors
     /// `Poisoned` where the builder is, and `OutOfMemory`.
@@ -39,7 +40,8 @@ impl ModuleTranslation<'_> {
             (tables_of self.old) (elements_of self.old) (plan_of_tables self.new)) }
         ensures agrees { OnOk result (AgreesOnTables self.old.module.num_imported_tables (tables_of self.old) (elements_of self.old) (plan_of_tables self.new)) }
 
-        // What is kept is the very value that stood there, and each defined table has one initial value and one image.
+        // What is kept is the very value that stood there, and each defined table has one initial
+        // value and one image.
         ensures left { OnOk result (IsLeft self.old.table_initialization self.new.table_initialization) }
         ensures counts { OnOk result (AreCounted self.new) }
 

@@ -4,8 +4,9 @@ use Rattle.replay_spec.specs.Phases.{Piece, trap_of, content_of}
 use Rattle.replay_spec.specs.Values.{Value}
 use Rattle.instance_laws.specs.Objects.{Objects, Addresses, allocated, phase_over}
 
--- what an instance is made of: the values of its globals; the sizes of its own tables and memories and what stands in them at first, each by
--- its number; the element segments and the data segments that are written, in order; and the start function
+-- what an instance is made of: the values of its globals; the sizes of its own tables and memories
+-- and what stands in them at first, each by its number; the element segments and the data segments
+-- that are written, in order; and the start function
 pub record Recipe : Type 0 where
   pub globals : List Value
   pub table_sizes : List ℕ
@@ -16,8 +17,8 @@ pub record Recipe : Type 0 where
   pub segments : List (Piece ℕ)
   pub start : Option ℕ
 
--- how instantiation ends: with a trap at an element or a data segment, counted from the last of all that are written, which is 1; or with the
--- call of the start function, if there is one
+-- how instantiation ends: with a trap at an element or a data segment, counted from the last of all
+-- that are written, which is 1; or with the call of the start function, if there is one
 pub data End : Type 0 where
   TrapsInElements : ℕ → End
   TrapsInData : ℕ → End
@@ -71,13 +72,15 @@ pub record SameObjects {A : Type 0} (Excepted : ℕ → Type 0) (one other : Obj
   pub sizes : (at : ℕ) → one.sizes at ≡ other.sizes at
   pub items : (at place : ℕ) → ¬ Excepted at → place < one.sizes at → one.items at place ≡ other.items at place
 
--- two instances have the same globals and the same tables, end alike, and have the same memories but for those that are excepted
+-- two instances have the same globals and the same tables, end alike, and have the same memories
+-- but for those that are excepted
 pub record SameInstance (Excepted : ℕ → Type 0) (one other : Instance) : Type 0 where
   pub globals : one.globals ≡ other.globals
   pub tables : SameObjects (λ at. ⊥) one.tables other.tables
   pub memories : SameObjects Excepted one.memories other.memories
   pub end : one.end ≡ other.end
 
--- where an element segment trapped, the memories that the instance itself defines, which stand from an address on
+-- where an element segment trapped, the memories that the instance itself defines, which stand from
+-- an address on
 abbrev pub OwnAfterTrap : ℕ → Instance → ℕ → Type 0
 OwnAfterTrap first instance at = TrappedInElements instance.end × (first ≤ at)

@@ -1,4 +1,5 @@
--- Objects at addresses, and those of an instance (core specification, 4.2, runtime structure, and 4.7, allocation).
+-- Objects at addresses, and those of an instance (core specification, 4.2, runtime structure, and
+-- 4.7, allocation).
 use Rattle.std.specs.Prelude.{◌≡◌, ℕ, ◌+◌, ◌-◌, ◌<◌, ◌≤◌, nat_lt, nat_le, All, List, length, map, slice_index, if◌then◌else◌}
 use Rattle.replay_spec.specs.Phases.{Piece, Phase}
 
@@ -7,8 +8,8 @@ pub record Objects (A : Type 0) : Type 0 where
   pub sizes : ℕ → ℕ
   pub items : ℕ → ℕ → A
 
--- the addresses of an instance's memories or tables: one for each that is imported, of which two may be one, and the first of its own, which
--- stand one behind the other
+-- the addresses of an instance's memories or tables: one for each that is imported, of which two
+-- may be one, and the first of its own, which stand one behind the other
 pub record Addresses : Type 0 where
   pub imported : List ℕ
   pub first : ℕ

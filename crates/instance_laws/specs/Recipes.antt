@@ -32,7 +32,8 @@ recipe_of_module m imported = let l = lists_of_module m in let globals = globals
   start = slice_get l.starts 0;
 }
 
--- the plan by its list: tables begin as their images, memories with zeros, and every entry of the list is written
+-- the plan by its list: tables begin as their images, memories with zeros, and every entry of the
+-- list is written
 abbrev pub recipe_by_list : (ℕ → ℕ) → ModuleTranslation → List Value → Recipe
 recipe_by_list fields t imported = let globals = planned_globals fields imported (plan_of_globals t) in let tables = plan_of_tables t in let plan = memory_plan_of t in record {
   globals = globals;
@@ -52,8 +53,8 @@ recipe_by_map fields t imported = let plan = memory_plan_of t in record (recipe_
   segments = map (piece_of (offset_over (planned_globals fields imported (plan_of_globals t)) fields)) (kept_segments plan);
 }
 
--- what a module is instantiated over: values of its imported globals, and an address for each table and memory that it imports, of which two
--- may be one
+-- what a module is instantiated over: values of its imported globals, and an address for each table
+-- and memory that it imports, of which two may be one
 pub record MayInstantiate (m : Module) (imported : List Value) (table_addresses memory_addresses : Addresses) (tables : Objects Value) (memories : Objects ℕ) : Type 0 where
   pub globals : length imported ≡ (lists_of_module m).imported_globals
   pub each_table : length table_addresses.imported ≡ length (imported_of table_import m)
@@ -61,8 +62,10 @@ pub record MayInstantiate (m : Module) (imported : List Value) (table_addresses 
   pub free_tables : AreFree table_addresses tables
   pub free_memories : AreFree memory_addresses memories
 
--- Over any objects, instantiating the plan is instantiating the module: the same globals, tables and memories, the same trap, the same start.
--- Read by its map there is one exception: where an element segment traps, memories that begin as images hold what no data segment wrote.
+-- Over any objects, instantiating the plan is instantiating the module: the same globals, tables
+-- and memories, the same trap, the same start.
+-- Read by its map there is one exception: where an element segment traps, memories that begin as
+-- images hold what no data segment wrote.
 pub record InstantiatesAlike (m : Module) (t : ModuleTranslation) : Type 0 where
   pub by_list : (imported : List Value) (ta ma : Addresses) (tables : Objects Value) (memories : Objects ℕ) → MayInstantiate m imported ta ma tables memories
       → SameInstance (λ at. ⊥) (instantiated ta ma tables memories (recipe_of_module m imported)) (instantiated ta ma tables memories (recipe_by_list (fields_of m) t imported))

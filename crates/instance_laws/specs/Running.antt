@@ -1,4 +1,5 @@
--- Segments written one after another, item by item (core specification, 4.6, memory.init and table.init; 4.7, instantiation).
+-- Segments written one after another, item by item (core specification, 4.6, memory.init and
+-- table.init; 4.7, instantiation).
 use Rattle.std.specs.Prelude.{◌≡◌, ℕ, suc, ◌==◌, ◌&&◌, List, [], ◌∷◌, length, Option, None, Some, if◌then◌else◌}
 use Rattle.replay_spec.specs.Phases.{Piece, Phase, fits, trap_of, content_of}
 
@@ -15,7 +16,8 @@ abbrev pub initialised : {A : Type 0} → Store A → ℕ → ℕ → List A →
 initialised store object place [] = store
 initialised store object place (x ∷ xs) = initialised (stored store object place x) object (suc place) xs
 
--- what a run leaves, and the number of the segment that trapped, counted from the last, which is 1; none where none did
+-- what a run leaves, and the number of the segment that trapped, counted from the last, which is 1;
+-- none where none did
 pub record Outcome (A : Type 0) : Type 0 where
   pub store : Store A
   pub trap : Option ℕ

@@ -56,7 +56,8 @@ abbrev pub two_names : Module
 two_names = Imports (import_as 0x61 (imported.Memory one_page) ∷ import_as 0x62 (imported.Memory one_page) ∷ [])
     ∷ Segments (written_to 0 16 (1 ∷ 2 ∷ 3 ∷ []) ∷ written_to 1 17 (9 ∷ []) ∷ []) ∷ []
 
--- it imports a table of two cells and a memory, and writes functions from a cell of the table on, 7 at 16 of the memory, and 8 at a place
+-- it imports a table of two cells and a memory, and writes functions from a cell of the table on, 7
+-- at 16 of the memory, and 8 at a place
 abbrev pub filling : ℕ → List ℕ → ℕ → Module
 filling cell functions place = Imports (import_as 0x74 (imported.Table two_cells_of_functions) ∷ import_as 0x61 (imported.Memory one_page) ∷ [])
     ∷ Elements (record { kind = ActiveElement None (op.I32Const (pos cell) ∷ []); items = Functions functions } ∷ [])

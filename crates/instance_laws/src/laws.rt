@@ -10,13 +10,15 @@ ghost use Rattle.translate.specs.Planned.{IsPlanned};
 ghost use Rattle.instance_laws.specs.Recipes.{InstantiatesAlike};
 ghost use Rattle.instance_laws.specs.Running.{LeavesPhase};
 
-/// What a phase leaves at each place, and where it traps, is what running its segments in turn gives: of bytes in memories, and of cells in tables.
+/// What a phase leaves at each place, and where it traps, is what running its segments in turn
+/// gives: of bytes in memories, and of cells in tables.
 pub fn phase_law()
     ensures bytes { (phase : Phase ℕ) → LeavesPhase phase }
     ensures cells { (phase : Phase Value) → LeavesPhase phase }
 {}
 
-/// Instantiating a plan is instantiating its module: over any objects, of which imports may name one twice, with the same trap and the same start.
+/// Instantiating a plan is instantiating its module: over any objects, of which imports may name
+/// one twice, with the same trap and the same start.
 pub fn instance_law()
     ensures { (o : Options) (bytes : List ℕ) (plan : Plan) (is : IsPlanned o bytes plan) → IsPowerOfTwo o.init.page_size
         → InstantiatesAlike is.meaning plan.translation }

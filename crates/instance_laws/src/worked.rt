@@ -13,7 +13,8 @@ pub fn worked_shared_memory()
     ensures end { (instance_of no_tables that_memory_twice two_names).end ≡ Starts None }
 {}
 
-/// A table that another instance filled: what no element segment covers stays, and function 5 is in the second cell.
+/// A table that another instance filled: what no element segment covers stays, and function 5 is in
+/// the second cell.
 pub fn worked_shared_table()
     ensures stays { (instance_of that_table that_memory (filling 1 (5 ∷ []) 20)).tables.items 3 0 ≡ Ref (Host 42) }
     ensures written { (instance_of that_table that_memory (filling 1 (5 ∷ []) 20)).tables.items 3 1 ≡ Ref (Func 5) }
@@ -21,8 +22,9 @@ pub fn worked_shared_table()
     ensures end { (instance_of that_table that_memory (filling 1 (5 ∷ []) 20)).end ≡ Starts None }
 {}
 
-/// An element segment that does not fit traps, stores nothing, and no data segment is written. A data segment that does not fit leaves what the
-/// element segments and the data segments before it wrote.
+/// An element segment that does not fit traps, stores nothing, and no data segment is written. A
+/// data segment that does not fit leaves what the element segments and the data segments before it
+/// wrote.
 pub fn worked_traps()
     ensures elements { (instance_of that_table that_memory (filling 1 (5 ∷ 5 ∷ []) 20)).end ≡ TrapsInElements 1 }
     ensures no_element { (instance_of that_table that_memory (filling 1 (5 ∷ 5 ∷ []) 20)).tables.items 3 1 ≡ Ref (Host 42) }

@@ -194,7 +194,8 @@ fn the_start_of_a_linked_program_is_found(rt: HostRuntime) -> Result<(), Fail> {
     Ok(())
 }
 
-/// What a linker says where the exports of a module are defined, defined again, and defined once the module was released; and its length at the end.
+/// What a linker says where the exports of a module are defined, defined again, and defined once
+/// the module was released; and its length at the end.
 #[derive(Drop)]
 struct Defined {
     first: Option<LinkError>,

@@ -10,8 +10,9 @@ use std::process::Abort;
 use std::test::Fail;
 use wasm_module::Module;
 
-/// It has the types `(func (param i32) (result i32))` and `(func (param i32))`, and exports a function `f` of the first, a table `t` of one
-/// to two functions, a memory `m` of one to two pages, a global `g` that is an i32 and cannot be written, and a tag `e` of the second type.
+/// It has the types `(func (param i32) (result i32))` and `(func (param i32))`, and exports a
+/// function `f` of the first, a table `t` of one to two functions, a memory `m` of one to two
+/// pages, a global `g` that is an i32 and cannot be written, and a tag `e` of the second type.
 pub(crate) const FIRST: [u8; 81] = [
     0x00, 0x61, 0x73, 0x6D, 0x01, 0x00, 0x00, 0x00, // the header
     0x01, 0x0A, 0x02, 0x60, 0x01, 0x7F, 0x01, 0x7F, 0x60, 0x01, 0x7F, 0x00, // types

@@ -30,7 +30,8 @@ pub record IsBefore (a b : Written) : Type 0 where
   pub apart : a.end ≤ b.start
   pub differ : a.end ≡ b.start → a.segment ≢ b.segment
 
--- ranges, in order and none empty, in which each place belongs to the last pair of start and length that covers it
+-- ranges, in order and none empty, in which each place belongs to the last pair of start and length
+-- that covers it
 pub record AreWritten (segments : List (ℕ × ℕ)) (ranges : List Written) : Type 0 where
   pub places : (place : ℕ) → segment_at ranges place ≡ last_cover segments place
   pub some : All (λ w. w.start < w.end) ranges

@@ -10,14 +10,16 @@ start_of segments k = (slice_index_or segments k (0, 0)).0
 abbrev pub end_of : List (ℕ × ℕ) → ℕ → ℕ
 end_of segments k = (slice_index_or segments k (0, 0)).0 + (slice_index_or segments k (0, 0)).1
 
--- ranges up to a place, in order and none empty, in which each place below it belongs to the last pair that covers it
+-- ranges up to a place, in order and none empty, in which each place below it belongs to the last
+-- pair that covers it
 pub record AreWrittenBelow (segments : List (ℕ × ℕ)) (limit : ℕ) (ranges : List Written) : Type 0 where
   pub places : (place : ℕ) → place < limit → segment_at ranges place ≡ last_cover segments place
   pub below : All (λ w. w.end ≤ limit) ranges
   pub some : All (λ w. w.start < w.end) ranges
   pub ordered : AllPairs IsBefore ranges
 
--- whatever ranges are written below a start, where a segment has the places from there up to an end, the new ones are written below both
+-- whatever ranges are written below a start, where a segment has the places from there up to an
+-- end, the new ones are written below both
 abbrev pub Extends : List Written → List Written → ℕ → ℕ → ℕ → Type 0
 Extends old new start end segment = (segments : List (ℕ × ℕ)) → ((place : ℕ) → start ≤ place → place < end → last_cover segments place ≡ Some segment)
     → AreWrittenBelow segments start old → AreWrittenBelow segments (max start end) new

@@ -1,5 +1,5 @@
-//! The images of a module's memories, by the definitions of `replay_spec`: which ranges of a memory segments write, whether they become
-//! images, and the images' bytes.
+//! The images of a module's memories, by the definitions of `replay_spec`: which ranges of a memory
+//! segments write, whether they become images, and the images' bytes.
 #![tactic(auto)]
 
 mod error;

@@ -38,7 +38,8 @@ fn minimum_bytes(memory: Memory) -> Option<u64>
     memory.limits.min.checked_mul(page_size(memory))
 }
 
-/// The place of a segment that is on a defined memory, has a constant offset of its index type, and ends within its minimum size.
+/// The place of a segment that is on a defined memory, has a constant offset of its index type, and
+/// ends within its minimum size.
 pub(crate) fn place_of(
     imported: usize,
     defined: &[Memory],

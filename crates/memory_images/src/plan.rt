@@ -14,11 +14,13 @@ use std::alloc::Global;
 use wasm_module::MemoryInitializer;
 use wasm_types::Memory;
 
-/// The images of all memories, imported ones first, where all active segments become images, and `None` where they do not. `beside` is the
-/// number of bytes that stand beside them. Where images are off nothing is allocated.
+/// The images of all memories, imported ones first, where all active segments become images, and
+/// `None` where they do not. `beside` is the number of bytes that stand beside them. Where images
+/// are off nothing is allocated.
 ///
 /// # Errors
-/// `TooLarge` where the images and the bytes beside them pass 4294967295 bytes together, before an image is made.
+/// `TooLarge` where the images and the bytes beside them pass 4294967295 bytes together, before an
+/// image is made.
 pub fn plan_images(
     alloc: Global,
     settings: ImageSettings,

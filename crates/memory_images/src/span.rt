@@ -158,7 +158,8 @@ fn pairs_of(alloc: Global, laid: &[Laid<'_>]) -> Result<Vec<(u64, u64)>, OutOfMe
     Ok(pairs)
 }
 
-/// The first and the last place whose byte is not zero. Where the ends of all that is laid stand, no range is made.
+/// The first and the last place whose byte is not zero. Where the ends of all that is laid stand,
+/// no range is made.
 fn ends_of(alloc: Global, laid: &[Laid<'_>]) -> Result<Option<Ends>, OutOfMemory>
     requires { All (λ x. end_of x < 2 ^ 64) laid.now }
     ensures { IfOk result (EndsOf (contents_of laid.now) (λ _. ⊤)) }

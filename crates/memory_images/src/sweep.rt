@@ -9,7 +9,8 @@ use crate::written::Written;
 use entity_map::OutOfMemory;
 use std::collections::BinaryHeap;
 
-/// Gives the places from `start` up to `end` to a segment, within the last range where that ends at `start` and is the same segment's.
+/// Gives the places from `start` up to `end` to a segment, within the last range where that ends at
+/// `start` and is the same segment's.
 fn extend(
     ranges: &mut Vec<Written>,
     start: u64,
@@ -34,8 +35,8 @@ fn extend(
     Ok(())
 }
 
-/// Goes from a place to a limit below which no more segments begin. Of the active segments that cover a place the last has it, and those
-/// that end are active no longer.
+/// Goes from a place to a limit below which no more segments begin. Of the active segments that
+/// cover a place the last has it, and those that end are active no longer.
 pub(crate) fn advance(
     segments: &[(u64, u64)],
     active: &mut BinaryHeap<usize>,

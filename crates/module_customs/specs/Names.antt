@@ -1,4 +1,5 @@
--- The names that the name sections of a module give, in the order of the file (core specification, appendix, name section).
+-- The names that the name sections of a module give, in the order of the file (core specification,
+-- appendix, name section).
 use Rattle.std.specs.Prelude.{◌≡◌, ◌<◌, ℕ, List, [], ◌∷◌, ◌++◌, length, map, codes, Bool, nat_eq, nat_lt, ◌==◌, Option, None, Some, if◌then◌else◌}
 use Rattle.std.specs.Borrow.{Bor}
 use Rattle.std.specs.BTreeMap.{BTreeMap}

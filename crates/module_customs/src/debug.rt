@@ -10,8 +10,8 @@ use custom_sections::is_debug_name;
 use form_data::Payload;
 use form_lists::{Single, Source, singles_of};
 
-/// Whether a custom section of a module holds debug information, by its name (core specification, appendix, custom sections; the names are
-/// those of the DWARF sections).
+/// Whether a custom section of a module holds debug information, by its name (core specification,
+/// appendix, custom sections; the names are those of the DWARF sections).
 pub fn has_debug_section(source: Source<'_, '_>) -> bool
     ensures { result ≡ list_any is_debug_section (source_module source.entry) }
 {

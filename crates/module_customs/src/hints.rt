@@ -18,8 +18,8 @@ use std::alloc::Global;
 use std::collections::BTreeMap;
 use wasm_index::FuncIndex;
 
-/// The hints of the last section of hints that has no fault, by their functions (branch hinting, binary format): of several entries of a
-/// function the first one counts.
+/// The hints of the last section of hints that has no fault, by their functions (branch hinting,
+/// binary format): of several entries of a function the first one counts.
 pub fn kept_hints(
     alloc: Global,
     source: Source<'_, '_>,
@@ -41,7 +41,8 @@ fn last_hints(alloc: Global, source: Source<'_, '_>) -> Result<Vec<(u32, Vec<Hin
     Ok(last)
 }
 
-/// The entries that count after a section: its own, and where it has none or a fault those that counted before.
+/// The entries that count after a section: its own, and where it has none or a fault those that
+/// counted before.
 fn entries_after(
     before: Vec<(u32, Vec<Hint>)>,
     section: Option<Vec<(u32, Vec<Hint>)>>,

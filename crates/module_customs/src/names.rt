@@ -24,8 +24,9 @@ use std::collections::BTreeMap;
 use wasm_index::FuncIndex;
 use wasm_spec::TypeRef;
 
-/// The names of the module, its functions and their locals, as the name sections give them (core specification, appendix, name section): those
-/// of locals are read where they are asked for, and the name of a function is kept where the function is declared before its section.
+/// The names of the module, its functions and their locals, as the name sections give them (core
+/// specification, appendix, name section): those of locals are read where they are asked for, and
+/// the name of a function is kept where the function is declared before its section.
 pub fn kept_names<'d>(
     alloc: Global,
     source: Source<'_, 'd>,
@@ -136,7 +137,8 @@ fn add_names<'d>(
     add_locals(alloc, &mut kept.locals_names, &names.locals, declared)
 }
 
-/// Adds the names of functions that are declared; a later name replaces an earlier one. The first names are made into a map at once.
+/// Adds the names of functions that are declared; a later name replaces an earlier one. The first
+/// names are made into a map at once.
 fn add_function_names<'d>(
     alloc: Global,
     kept: &mut BTreeMap<FuncIndex, &'d str>,

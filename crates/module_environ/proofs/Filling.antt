@@ -1,4 +1,5 @@
--- What is gathered from the entries of a module, one after another: what was gathered, with what those that are left give, is always all.
+-- What is gathered from the entries of a module, one after another: what was gathered, with what
+-- those that are left give, is always all.
 use Rattle.std.proofs.Common.{◌≡◌, ◌≤◌, ℕ, Option, Some, None, List, [], ◌∷◌, ◌++◌, length, map, All, sym, subst, append_assoc, arith}
 use Rattle.std.specs.Prelude.{IfSome}
 use Rattle.std.specs.List.{filter_map, cons_option}

@@ -1,4 +1,5 @@
--- What the rules say of each section: its types are known, its expressions can be converted, and its indices are in range.
+-- What the rules say of each section: its types are known, its expressions can be converted, and
+-- its indices are in range.
 use Rattle.std.proofs.Common.{◌≡◌, ℕ, ◌+◌, ◌<◌, ◌≤◌, ◌^◌, ◌⊎◌, List, [], ◌∷◌, length, take, Option, Some, None, sym, subst, arith, inl, inr, get_or, length-take}
 use Rattle.std.specs.Prelude.{All, IfSome, slice_get, unwrap_or}
 use Rattle.std.proofs.lemmas.List.Elements.{All-nil, All-cons, All-head, All-tail}

@@ -1,4 +1,5 @@
--- Places at which a builder stands on its way through the types of a module, and what a call that stops there answers.
+-- Places at which a builder stands on its way through the types of a module, and what a call that
+-- stops there answers.
 use Rattle.std.proofs.Common.{◌≡◌, ◌≢◌, ◌∙◌, ◌⊎◌, inl, inr, ℕ, Bool, true, false, List, length, map, Result, Ok, Err, refl, ap, arith}
 use Rattle.std.specs.Prelude.{IfErr, OnErr}
 use Rattle.std.proofs.lemmas.Bool.{cases_Bool}

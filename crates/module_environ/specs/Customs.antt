@@ -1,5 +1,5 @@
--- What a translation has of the custom sections of a module (core specification, appendix, custom sections; branch hinting, binary format), and
--- of its functions for a debugger.
+-- What a translation has of the custom sections of a module (core specification, appendix, custom
+-- sections; branch hinting, binary format), and of its functions for a debugger.
 use Rattle.std.specs.Prelude.{◌≡◌, ℕ, Bool, [], map, None, if◌then◌else◌}
 use Rattle.std.specs.List.{list_any}
 use Rattle.std.specs.Option.{option_map}

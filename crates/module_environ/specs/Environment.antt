@@ -1,4 +1,5 @@
--- Which types an environment knows: those that the record of its translation holds, by their indices (core specification, 2.5, types).
+-- Which types an environment knows: those that the record of its translation holds, by their
+-- indices (core specification, 2.5, types).
 use Rattle.std.specs.Prelude.{◌≡◌, ◌<◌, ℕ, List, length, slice_get, Option, Some, None, IsSomeAnd, option_and_then}
 use Rattle.wasm_index.specs.Index.{number_of}
 use Rattle.wasm_types.specs.declared.index.EngineOrModuleTypeIndex.{EngineOrModuleTypeIndex}

@@ -1,5 +1,6 @@
--- The functions that escape from a module: references to them are made, by whoever imports or exports them and by initialisers (core
--- specification, 3.4, references of a module). They are numbered in the order of the first cause.
+-- The functions that escape from a module: references to them are made, by whoever imports or
+-- exports them and by initialisers (core specification, 3.4, references of a module). They are
+-- numbered in the order of the first cause.
 use Rattle.std.specs.Prelude.{◌↔◌, ℕ, ◌-◌, ◌<◌, ◌==◌, Bool, List, [], ◌++◌, length, map, get_or, Contains, Option, None, Some, unwrap_or, if◌then◌else◌}
 use Rattle.std.specs.List.{flat_map, filter_map, range_with_len, position}
 use Rattle.wasm_spec.specs.declared.operators.Operator.{Operator}
@@ -34,7 +35,8 @@ item_functions (Expressions type items) = flat_map referred items
 abbrev pub defined_functions : Lists → List ℕ
 defined_functions l = range_with_len l.imported_functions (length l.functions - l.imported_functions)
 
--- each cause for a reference, in order, by its function; `debugged` says whether a debugger of the guest may make some
+-- each cause for a reference, in order, by its function; `debugged` says whether a debugger of the
+-- guest may make some
 abbrev pub references : Bool → Lists → List ℕ
 references debugged l =
     range_with_len 0 l.imported_functions

@@ -32,7 +32,8 @@ use Rattle.module_environ.specs.Translation.{CountsImports, NeedsHeap, HasGlobal
 abbrev pub module_in : Lists → plain.Module
 module_in l = source_module l.source
 
--- the lists are those of a module that keeps the rules and has few entries, but for its types, for which nothing asks any more
+-- the lists are those of a module that keeps the rules and has few entries, but for its types, for
+-- which nothing asks any more
 pub record IsGathered (l : Lists) : Type 0 where
   pub lists : lists_of l ≡ record (lists_of_module (module_in l)) { types = [] }
   pub keeps : Keeps (module_in l)
@@ -108,7 +109,8 @@ LeavesRest old new = record {
   offset : new.wasm_module_offset ≡ old.wasm_module_offset;
 }
 
--- of a translation only names, hints, and the metadata of its functions and of debug information, may be others
+-- of a translation only names, hints, and the metadata of its functions and of debug information,
+-- may be others
 abbrev pub OnlyCustomsChange : ModuleTranslation → ModuleTranslation → Type 0
 OnlyCustomsChange old new = new ≡ record old {
   «module» = record old.module { strings = new.module.strings; name = new.module.name };

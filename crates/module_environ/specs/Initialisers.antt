@@ -1,4 +1,5 @@
--- What a translated module is filled with: first values of globals, element and data segments (core specification, 2.5).
+-- What a translated module is filled with: first values of globals, element and data segments (core
+-- specification, 2.5).
 use Rattle.std.specs.Prelude.{ℕ, ◌+◌, List, [], ◌∷◌, ◌++◌, map, Option, Some, None, unwrap_or, if◌then◌else◌}
 use Rattle.std.specs.List.{filter_map, enumerate_from}
 use Rattle.std.specs.Option.{option_map}

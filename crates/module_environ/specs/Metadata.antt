@@ -1,4 +1,5 @@
--- The metadata of the functions that a module defines: their parameters, and their locals in runs of one type (core specification, 2.5, functions).
+-- The metadata of the functions that a module defines: their parameters, and their locals in runs
+-- of one type (core specification, 2.5, functions).
 use Rattle.std.specs.Prelude.{ℕ, ◌+◌, Bool, List, [], map, All, unwrap_or, if◌then◌else◌}
 use Rattle.std.specs.List.{enumerate_from}
 use Rattle.std.specs.Option.{option_map}

@@ -18,7 +18,8 @@ after_types t count = fold (interns_type t) (new_builder t.validator) (take coun
 abbrev pub after_tags : plain.Module → List ℕ → Builder → ℕ → Builder
 after_tags m tags b count = fold excepts b (map (interned_at m) (take count tags))
 
--- the module's declared types by ids: some of them were interned, or all, and then exception types were made, and then the startup type
+-- the module's declared types by ids: some of them were interned, or all, and then exception types
+-- were made, and then the startup type
 pub record IsOnTheWay (m : plain.Module) (validator : ℕ) (b : Builder) : Type 0 where
   pub types : TypesData
   pub numbered : AreNumbered m types

@@ -18,7 +18,8 @@ with_texts texts more = fold with_text texts more
 abbrev pub own_name : Bool → plain.Module → List (List ℕ)
 own_name native m = cons_option (module_names native m).module_name []
 
--- the names of exports, which are distinct, and those of imports and of the module, each where it first occurs
+-- the names of exports, which are distinct, and those of imports and of the module, each where it
+-- first occurs
 abbrev pub pool_of : Bool → plain.Module → List (List ℕ)
 pool_of native m = with_texts (exported_names (lists_of_module m).exports) (imported_names m ++ own_name native m)
 

@@ -12,7 +12,8 @@ use Rattle.module_types.specs.Builder.{Builder, exception_index}
 use Rattle.module_environ.specs.Environment.{interned_in, number_or_zero}
 use Rattle.module_environ.specs.Types.{declared, type_index, HoldsGroupsAlone}
 
--- a builder holds the declared types of a module and nothing else, each at the index that a list gives it; the tags name function types
+-- a builder holds the declared types of a module and nothing else, each at the index that a list
+-- gives it; the tags name function types
 pub record CanTag (m : plain.Module) (tags : List ℕ) (types : List EngineOrModuleTypeIndex) (b : Builder) : Type 0 where
   pub earlier : NameEarlier 0 (placed_groups m)
   pub few : length (plain.types m) < 2 ^ 30

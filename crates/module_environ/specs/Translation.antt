@@ -1,4 +1,5 @@
--- The translation of a module, before its memories and tables are planned: each field is a list of the module (core specification, 2.5).
+-- The translation of a module, before its memories and tables are planned: each field is a list of
+-- the module (core specification, 2.5).
 use Rattle.std.specs.Prelude.{◌≡◌, ◌≤◌, ℕ, Bool, true, false, List, [], ◌∷◌, length, map, drop, slice_get, not, All, IfSome, Some, None, unwrap_or}
 use Rattle.std.specs.List.{flat_map, list_any}
 use Rattle.std.specs.Option.{option_map}

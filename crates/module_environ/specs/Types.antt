@@ -1,4 +1,5 @@
--- The types of a translated module (core specification, 2.5, types): each declared type by its interned index.
+-- The types of a translated module (core specification, 2.5, types): each declared type by its
+-- interned index.
 use Rattle.std.specs.Prelude.{◌≡◌, ℕ, ◌+◌, ◌^◌, ◌<◌, ◌==◌, Bool, get_or, List, length, map, unwrap_or}
 use Rattle.std.specs.List.{position}
 use Rattle.wasm_spec.specs.Module.{tags}

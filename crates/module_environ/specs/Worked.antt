@@ -21,8 +21,9 @@ global_of_functions function = record { type = record { content_type = value.Ref
 abbrev pub declared_functions : List ℕ → Element
 declared_functions functions = record { kind = DeclaredElement; items = Functions functions }
 
--- one type of functions; one imported function; six functions after it, of which an initialiser of a table names one, that of a global one, an
--- export one, and a segment that is only declared two, one of them again
+-- one type of functions; one imported function; six functions after it, of which an initialiser of
+-- a table names one, that of a global one, an export one, and a segment that is only declared two,
+-- one of them again
 abbrev pub escaping_module : Module
 escaping_module =
     Types ((record { is_final = true; supertype = None; composite = record { inner = Func (record { params = []; results = [] }); shared = false } } ∷ []) ∷ [])

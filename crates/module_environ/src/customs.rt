@@ -25,7 +25,8 @@ use wasm_convert::TypeConvert;
 use wasm_index::FuncIndex;
 use wasm_types::Tunables;
 
-/// Fills in names, hints of branches and the metadata of functions, as far as they are asked for, and whether there is debug information.
+/// Fills in names, hints of branches and the metadata of functions, as far as they are asked for,
+/// and whether there is debug information.
 pub(crate) fn fill_customs<'d>(
     alloc: Global,
     tunables: &Tunables,

@@ -45,7 +45,8 @@ pub(crate) fn declared_converter<'a>(
     WasmparserTypeConverter::new(types, count, RecordTypes(declared))
 }
 
-/// The declared types of a module, each as a reference to its interned type. It holds no borrow, so that it can stand behind a trait object.
+/// The declared types of a module, each as a reference to its interned type. It holds no borrow, so
+/// that it can stand behind a trait object.
 #[derive(Drop)]
 pub(crate) struct DeclaredTypes {
     names: Vec<WasmHeapType>,

@@ -54,7 +54,8 @@ impl<'a, 'd> ModuleEnvironment<'a, 'd> {
     }
 }
 
-/// An environment knows the types of its record by their indices, and no type by its id. A new one knows none.
+/// An environment knows the types of its record by their indices, and no type by its id. A new one
+/// knows none.
 impl TypeConvert for ModuleEnvironment<'_, '_> {
     ghost knows = { λ e i. IsNamed e.declared.now i };
 

@@ -19,7 +19,8 @@ use std::alloc::Global;
 use wasm_convert::{ConstExpr, GlobalConstValue, TypeConvert};
 use wasm_index::DefinedGlobalIndex;
 
-/// How the defined globals begin: each is in one of the two lists, by its number among the defined globals, in order.
+/// How the defined globals begin: each is in one of the two lists, by its number among the defined
+/// globals, in order.
 #[derive(Drop)]
 pub(crate) struct FirstGlobals {
     /// Those whose value is known.

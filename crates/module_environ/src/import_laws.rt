@@ -9,8 +9,8 @@ ghost use Rattle.wasm_module.specs.Record.{record_of};
 ghost use Rattle.init_plan.specs.declared.translation.ModuleTranslation.{ModuleTranslation};
 ghost use Rattle.module_environ.specs.Translation.{HasEntities, CountsImports};
 
-/// Each imported entity of a translated module is the one that some import brings: what `import_position` returns for it is a place,
-/// and `import_index` gives it back for that place.
+/// Each imported entity of a translated module is the one that some import brings: what
+/// `import_position` returns for it is a place, and `import_index` gives it back for that place.
 pub fn import_position_law()
     ensures { (m : Module) (t : ModuleTranslation) (e : EntityIndex) (answer : Option ℕ) → HasEntities m t → CountsImports m t.module
         → IsImported (record_of t.module) e → IsFirstImport (record_of t.module) e answer

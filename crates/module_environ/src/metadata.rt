@@ -47,7 +47,8 @@ pub(crate) fn function_metadata(
     Ok(all)
 }
 
-/// The parameters of each declared type, which its functions share: a copy for each function could take the square of the input.
+/// The parameters of each declared type, which its functions share: a copy for each function could
+/// take the square of the input.
 fn params_by_type(
     alloc: Global,
     env: &dyn TypeConvert,

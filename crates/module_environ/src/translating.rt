@@ -1,4 +1,5 @@
-//! The translation of a module: its bytes are read and checked, and each section becomes a part of the record.
+//! The translation of a module: its bytes are read and checked, and each section becomes a part of
+//! the record.
 
 ghost use Rattle.std.specs.Prelude.{◌≡◌, ◌≢◌, ◌⊎◌, ◌^◌, ◌≤◌, ◌&&◌, length, map, true, false, is_none, IfOk, IfErr, OnOk, OnErr, Err};
 ghost use Rattle.wasm_spec.specs.Module.{Module, groups, imports, function_import, HasFewEntries};
@@ -48,12 +49,13 @@ use wasm_index::{StaticModuleIndex, TypeIndex};
 use wasm_types::{EngineOrModuleTypeIndex, Tunables};
 
 impl<'a, 'd> ModuleEnvironment<'a, 'd> {
-    /// The translation of the module that the bytes spell: each section as the record holds it, with types interned by the builder, and
-    /// nothing planned yet.
+    /// The translation of the module that the bytes spell: each section as the record holds it,
+    /// with types interned by the builder, and nothing planned yet.
     ///
     /// # Errors
-    /// `TooLarge` for 2^30 bytes or more; `Malformed` and `Unsupported` by what the bytes spell; `Invalid` where the module breaks a listed
-    /// rule; `Poisoned` where the builder was poisoned; `OutOfMemory`, after which the builder may be.
+    /// `TooLarge` for 2^30 bytes or more; `Malformed` and `Unsupported` by what the bytes spell;
+    /// `Invalid` where the module breaks a listed rule; `Poisoned` where the builder was poisoned;
+    /// `OutOfMemory`, after which the builder may be.
     pub fn translate(
         self,
         alloc: Global,
@@ -69,13 +71,14 @@ impl<'a, 'd> ModuleEnvironment<'a, 'd> {
         ensures cause { IfErr result (HasTranslationCause bytes.now self.entry.types.now.is_poisoned) }
         ensures too_long { 2 ^ 30 ≤ length bytes.now → result ≡ Err EnvironError.TooLarge }
 
-        // A module that keeps the rules has a translation, unless memory runs out; where the builder was poisoned, and only there, the answer is
-        // that it was.
+        // A module that keeps the rules has a translation, unless memory runs out; where the
+        // builder was poisoned, and only there, the answer is that it was.
         ensures complete { (m : Module) → IsReadable bytes.now m → Keeps m → self.entry.types.now.is_poisoned ≡ false → SucceedsOrNoMemory result }
         ensures poisoned { (m : Module) → IsReadable bytes.now m → Keeps m → self.entry.types.now.is_poisoned ≡ true → IsPoisonedOrNoMemory result }
 
-        // What is left of the builder: it is as it was after each refusal but that of memory, and where it was poisoned. Where memory ran out it is
-        // poisoned, or as it was, or it holds the first of the module's types and exception types.
+        // What is left of the builder: it is as it was after each refusal but that of memory, and
+        // where it was poisoned. Where memory ran out it is poisoned, or as it was, or it holds the
+        // first of the module's types and exception types.
         ensures refused { OnErr result (result ≢ Err EnvironError.OutOfMemory → self.exit.1.1.0.now ≡ self.entry.types.now) }
         ensures stays_poisoned { self.entry.types.now.is_poisoned ≡ true → self.exit.1.1.0.now ≡ self.entry.types.now }
         ensures stops { OnErr result (StopsOnTheWay self.entry.validator.now bytes.now self.entry.types.now self.exit.1.1.0.now) }
@@ -211,7 +214,8 @@ fn translate_lists<'d>(
     Ok(())
 }
 
-/// Fills an empty translation with the sections of a module whose declared types the builder holds, and with what custom ones give.
+/// Fills an empty translation with the sections of a module whose declared types the builder holds,
+/// and with what custom ones give.
 fn fill_lists<'d>(
     alloc: Global,
     tunables: &Tunables,

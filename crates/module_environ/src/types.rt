@@ -17,7 +17,8 @@ use std::alloc::Global;
 use wasm_index::TypeIndex;
 use wasm_types::EngineOrModuleTypeIndex;
 
-/// Interns the groups of a module's declared types in order, with a new builder, and gives the interned index of each declared type.
+/// Interns the groups of a module's declared types in order, with a new builder, and gives the
+/// interned index of each declared type.
 pub fn intern_types(
     alloc: Global,
     types: &Types,

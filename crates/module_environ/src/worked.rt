@@ -12,7 +12,8 @@ ghost use Rattle.module_environ.specs.Metadata.{functions_asked};
 ghost use Rattle.module_environ.specs.Types.{look_up_in};
 ghost use Rattle.module_environ.specs.Worked.{defining_module, escaping_module};
 
-/// The functions that escape, in the order of the first cause: imports, tables, globals, exports and segments, and then those of a debugger.
+/// The functions that escape, in the order of the first cause: imports, tables, globals, exports
+/// and segments, and then those of a debugger.
 pub fn worked_escapes()
     ensures firsts { firsts (3 ∷ 1 ∷ 3 ∷ 2 ∷ 1 ∷ []) ≡ 3 ∷ 1 ∷ 2 ∷ [] }
     ensures order { escaping false (lists_of_module escaping_module) ≡ 0 ∷ 5 ∷ 2 ∷ 4 ∷ 1 ∷ [] }

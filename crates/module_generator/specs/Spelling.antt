@@ -2,7 +2,8 @@
 use Rattle.std.specs.Prelude.{ℕ, zero, suc, ◌+◌, ◌/◌, ◌%◌, List, [], ◌∷◌, ◌++◌, length, nat_lt, if◌then◌else◌}
 use Rattle.std.specs.List.{flat_map, range_with_len}
 
--- n, seven bits to a byte, the lowest first: a byte below top is the last, and at most a given number of bytes stand before it
+-- n, seven bits to a byte, the lowest first: a byte below top is the last, and at most a given
+-- number of bytes stand before it
 unfoldable pub groups : ℕ → ℕ → ℕ → List ℕ
 groups top zero n = n ∷ []
 groups top (suc more) n = if nat_lt n top then n ∷ [] else (n % 128 + 128) ∷ groups top more (n / 128)

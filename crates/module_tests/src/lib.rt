@@ -1,4 +1,5 @@
-//! Tests of single calls on records: the record of a module, the list of its types, and the builder of that list.
+//! Tests of single calls on records: the record of a module, the list of its types, and the builder
+//! of that list.
 #![tactic(auto)]
 
 #[cfg(test)]

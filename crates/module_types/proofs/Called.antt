@@ -1,4 +1,5 @@
--- Trampolines: steps keep them where mapped types were met; each member of a group has one, and in a module's list all functions but the startup type.
+-- Trampolines: steps keep them where mapped types were met; each member of a group has one, and in
+-- a module's list all functions but the startup type.
 use Rattle.std.proofs.lemmas.Grind.{common_steps}
 use Rattle.std.proofs.Common.{◌≡◌, ◌<◌, ◌≤◌, ℕ, zero, suc, ◌+◌, ◌-◌, Bool, true, false, List, [], ◌∷◌, ◌++◌, length, get_or, set, replicate, map, Option, Some, None, refl, sym, ap, ◌∙◌, inl, inr, arith}
 use Rattle.std.specs.Prelude.{if◌then◌else◌, IsSome, slice_get, option_and_then}

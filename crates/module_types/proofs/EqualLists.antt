@@ -1,4 +1,5 @@
--- Two lists of groups have equal interned lists exactly where they take equal groups in turn, and what is built tells the groups that it was built of.
+-- Two lists of groups have equal interned lists exactly where they take equal groups in turn, and
+-- what is built tells the groups that it was built of.
 use Rattle.std.proofs.lemmas.Grind.{common_steps}
 use Rattle.std.proofs.Common.{◌≡◌, ◌∙◌, ◌↔◌, ◌<◌, ℕ, List, [], ◌∷◌, length, map, sym, ap, arith, ◌++◌, refl, inl, inr, ◌+◌, ◌-◌, ◌≤◌, subst}
 use Rattle.std.proofs.lemmas.Bool.{false≢true}

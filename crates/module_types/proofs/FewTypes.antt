@@ -1,4 +1,5 @@
--- A group appends at most two types for each of its members: itself, and the mapped type of a function. So there are at most two for each declared type.
+-- A group appends at most two types for each of its members: itself, and the mapped type of a
+-- function. So there are at most two for each declared type.
 use Rattle.std.proofs.Common.{◌≡◌, ℕ, suc, ◌+◌, ◌<◌, ◌≤◌, List, [], ◌∷◌, length, inl, inr, arith, length-append}
 use Rattle.std.proofs.lemmas.Bool.{cases_lt}
 use Rattle.std.proofs.lemmas.List.{length-map}

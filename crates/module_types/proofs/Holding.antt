@@ -1,4 +1,5 @@
--- What a builder shows after a growing call, and what it holds under ids: after one more index, one more group, and calls in turn.
+-- What a builder shows after a growing call, and what it holds under ids: after one more index, one
+-- more group, and calls in turn.
 use Rattle.std.proofs.Common.{◌≡◌, ◌<◌, ℕ, true, false, List, length, Option, Some, None, refl, sym, ap, ◌∙◌, inl, inr, arith, zero, suc, [], ◌∷◌, ◌++◌, take, drop, get_or}
 use Rattle.std.specs.Prelude.{if◌then◌else◌, slice_get, is_some}
 use Rattle.std.proofs.lemmas.Bool.{eqb-true, eq-eqb, cases_eq, eqb-false}

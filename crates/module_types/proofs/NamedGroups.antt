@@ -1,4 +1,5 @@
--- A list stays one that may be listed: once a group of a list of types is appended with its trampolines, an exception type or the startup type.
+-- A list stays one that may be listed: once a group of a list of types is appended with its
+-- trampolines, an exception type or the startup type.
 use Rattle.std.proofs.Common.{◌≡◌, ◌∙◌, ◌<◌, ◌≤◌, ℕ, zero, suc, ◌+◌, ◌-◌, true, false, List, [], ◌∷◌, ◌++◌, length, take, drop, get_or, map, Option, Some, None, refl, sym, ap, subst, inl, inr, arith}
 use Rattle.std.specs.Prelude.{◌⊎◌, slice_get, IsSome}
 use Rattle.std.specs.List.{All}

@@ -1,4 +1,5 @@
--- The interned list of a module is well named, and so it was before trampolines, exception types and the startup type.
+-- The interned list of a module is well named, and so it was before trampolines, exception types
+-- and the startup type.
 use Rattle.std.proofs.Common.{◌≡◌, ◌∙◌, ◌<◌, ◌≤◌, inl, inr, ℕ, zero, suc, ◌+◌, Bool, true, false, None, List, [], ◌∷◌, ◌++◌, length, get_or, refl, sym, ap, subst, arith, length-append, Option, map}
 use Rattle.std.specs.List.{All, flat_map}
 use Rattle.std.specs.Prelude.{◌⊎◌}

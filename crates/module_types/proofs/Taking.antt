@@ -1,4 +1,5 @@
--- What the taking of a list's groups makes: the groups that are taken get the next indices, and each type has that of the first equal one.
+-- What the taking of a list's groups makes: the groups that are taken get the next indices, and
+-- each type has that of the first equal one.
 use Rattle.std.proofs.Common.{◌≡◌, ◌∙◌, ◌↔◌, ◌⊎◌, inl, inr, ℕ, zero, suc, ◌+◌, ◌-◌, ◌<◌, ◌≤◌, Bool, true, false, ◌||◌, List, [], ◌∷◌, ◌++◌, length, get_or, map, refl, sym, ap, subst, arith}
 use Rattle.std.specs.List.{All, fold, list_any, range_with_len}
 use Rattle.std.proofs.lemmas.Bool.{cases_lt, cases_eq, cases_Bool, or_cases, or_left, or_right}

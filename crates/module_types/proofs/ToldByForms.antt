@@ -1,4 +1,5 @@
--- Canonical forms of groups of two interned lists are equal exactly where the groups are; where they decide which types have one index, the indices tell the types.
+-- Canonical forms of groups of two interned lists are equal exactly where the groups are; where
+-- they decide which types have one index, the indices tell the types.
 use Rattle.std.proofs.Common.{◌≡◌, ◌∙◌, ◌↔◌, ℕ, zero, suc, ◌<◌, ◌≤◌, Bool, true, false, nat_lt, List, [], ◌∷◌, length, get_or, refl, sym, arith, ◌-◌, ap}
 use Rattle.std.proofs.lemmas.Bool.{ltb-true, ltb-false, lt-ltb, le-ltb}
 use Rattle.type_spec.specs.Equality.{SameGroup, SameType, Home, home}

@@ -13,8 +13,9 @@ use Rattle.module_types.specs.TypeList.{TypeList}
 use Rattle.module_types.specs.Held.{built_of}
 use Rattle.module_types.specs.Noted.{noted_at}
 
--- what a builder keeps: the validator's number, its list, and the mapped types that were met with their indices, in some order; and two lists: at the
--- place of an id the group that was interned under it, and at the place of a function type its exception type
+-- what a builder keeps: the validator's number, its list, and the mapped types that were met with
+-- their indices, in some order; and two lists: at the place of an id the group that was interned
+-- under it, and at the place of a function type its exception type
 pub record BuilderState : Type 0 where
   pub validator : ℕ
   pub list : TypeList
@@ -24,8 +25,8 @@ pub record BuilderState : Type 0 where
   pub startup : Option TypeIndex
   pub is_poisoned : Bool
 
--- what was built; the group that was interned under each id, the exception type of each function type, and the startup type; and whether
--- a growing call returned an error
+-- what was built; the group that was interned under each id, the exception type of each function
+-- type, and the startup type; and whether a growing call returned an error
 pub record Builder : Type 0 where
   pub validator : ℕ
   pub built : Built

@@ -1,5 +1,5 @@
--- What the references of a group become that names types by ids: inside the group the next index plus the place, outside the index of an
--- interned type.
+-- What the references of a group become that names types by ids: inside the group the next index
+-- plus the place, outside the index of an interned type.
 use Rattle.std.specs.Prelude.{◌≡◌, ◌<◌, ◌⊎◌, ℕ, ◌+◌, ◌-◌, get_or, List, [], All, length, map, take, drop, slice_get, Option, Some, None, IsSome}
 use Rattle.wasm_spec.specs.declared.types.UnpackedIndex.{UnpackedIndex}
 use Rattle.wasm_spec.specs.declared.types.UnpackedIndex.TheVariants as index
@@ -47,7 +47,8 @@ pub record HoldsGroup (t : TypesData) (types : List Interned) (spans : List Span
   pub stands : StandsInterned t spans k j
   pub kinds : kinds_of (take (length (members_of t k)) (drop (get_or spans j no_span).start types)) ≡ kinds_of (members_of t k)
 
--- a list of types by ids; the next index, the indices of each interned group, and the group that was interned under each id of a group
+-- a list of types by ids; the next index, the indices of each interned group, and the group that
+-- was interned under each id of a group
 module _ (t : TypesData) (next : ℕ) (spans : List Span) (ids : ℕ → Option ℕ) where
   -- where the first member of a group stands: where it was interned, or else at the next index
   abbrev pub start_by : Option ℕ → ℕ

@@ -20,7 +20,8 @@ pub record HasTaken (t : TypesData) (b : Builder) (s : Taken) : Type 0 where
   pub built : b.built ≡ s.built
   pub declared : (i : ℕ) → i < length s.declared → interned_index t b (slice_index t.declared i) ≡ get_or s.declared i 0
 
--- a group's id can be interned: it is that of a group with types, and the groups that it names outside itself are held
+-- a group's id can be interned: it is that of a group with types, and the groups that it names
+-- outside itself are held
 pub record CanIntern (t : TypesData) (b : Builder) (k : ℕ) : Type 0 where
   pub known : k < length t.groups
   pub filled : 0 < length (members_of t k)

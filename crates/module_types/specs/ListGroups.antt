@@ -45,7 +45,8 @@ kind_in ts i = kind_of_type (composite_at ts i)
 abbrev pub name_in : List Interned → ℕ → Named ℕ
 name_in ts i = record { kind = kind_in ts i; index = i }
 
--- the groups lie one after another; each reference names a type of its own group or of an earlier one, by its kind
+-- the groups lie one after another; each reference names a type of its own group or of an earlier
+-- one, by its kind
 pub record IsWellNamed (b : Built) : Type 0 where
   pub orderly : IsOrderly b
   pub earlier : NameEarlier 0 (list_groups b)

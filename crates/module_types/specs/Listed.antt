@@ -17,7 +17,8 @@ nowhere f = None
 abbrev pub list_of : TypeList → Built
 list_of l = built_of l nowhere
 
--- the groups lie behind one another, and none is empty; each reference names a type of its own group or of an earlier one, by its kind;
+-- the groups lie behind one another, and none is empty; each reference names a type of its own
+-- group or of an earlier one, by its kind;
 -- and each is a module's index, so that the types are had back from the data
 pub record Listed (l : TypeList) : Type 0 where
   pub well_named : IsWellNamed (list_of l)

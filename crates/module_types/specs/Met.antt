@@ -1,4 +1,5 @@
--- The mapped types that were met: each stands in a list, and those of one digest are chained, from the newest on.
+-- The mapped types that were met: each stands in a list, and those of one digest are chained, from
+-- the newest on.
 use Rattle.std.specs.Prelude.{◌≡◌, ℕ, zero, suc, ◌<◌, nat_eq, cond, List, [], map, reverse, take, length, slice_get, Option, Some, None, IsSome}
 use Rattle.std.specs.Option.{unwrap_or}
 use Rattle.std.specs.Map.{lookup}
@@ -19,7 +20,8 @@ use Rattle.module_types.specs.declared.met.MetTypes.{MetTypes}
 abbrev pub no_function : WasmFuncType
 no_function = record { params = []; results = [] }
 
--- a function type that was met: the type, the index at which it stands, and how many were met up to the one before with its digest
+-- a function type that was met: the type, the index at which it stands, and how many were met up to
+-- the one before with its digest
 pub record Met : Type 0 where
   pub key : WasmFuncType
   pub ty : TypeIndex

@@ -27,7 +27,8 @@ code_of val.F64 = 3
 code_of val.V128 = 4
 code_of (val.Ref r) = code_of_top (top_of r.heap_type)
 
--- a word with the codes so far, and more codes: a full word stands by itself, and the last one has what is left
+-- a word with the codes so far, and more codes: a full word stands by itself, and the last one has
+-- what is left
 abbrev pub packed : ℕ → List ℕ → List ℕ
 packed word [] = word ∷ []
 packed word (c ∷ cs) = if nat_lt (word * 16 + c) (2 ^ 60) then packed (word * 16 + c) cs else ((word * 16 + c) ∷ packed 1 cs)

@@ -39,7 +39,8 @@ pub struct ModuleTypesBuilder {
     pub(crate) poisoned: bool,
 }
 
-/// A contract sees the list, the mapped types that were met with their indices, and what is noted; `builder_view` is what they say.
+/// A contract sees the list, the mapped types that were met with their indices, and what is noted;
+/// `builder_view` is what they say.
 impl Model for ModuleTypesBuilder {
     ghost use Rattle.std.specs.Prelude.{◌≡◌, false};
     ghost use Rattle.module_types.specs.Met.{entries_of, mets};
@@ -175,7 +176,8 @@ impl ModuleTypesBuilder {
         Ok(())
     }
 
-    /// The list that was built: groups one behind another, whose references name types of the same group or of earlier ones, by their kinds.
+    /// The list that was built: groups one behind another, whose references name types of the same
+    /// group or of earlier ones, by their kinds.
     pub fn finish(self) -> ModuleTypes
         requires { self.is_poisoned ≡ false }
         ensures built { result ≡ self.list }

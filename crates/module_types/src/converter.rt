@@ -69,8 +69,8 @@ pub struct WasmparserTypeConverter<'a, F: TypeLookUp> {
 }
 
 impl<'a, F: TypeLookUp> WasmparserTypeConverter<'a, F> {
-    /// A converter of types that name the first `count` types of a module. The look-up answers the interned index
-    /// of each.
+    /// A converter of types that name the first `count` types of a module. The look-up answers the
+    /// interned index of each.
     pub fn new(types: &'a ModuleTypesBuilder, count: u32, lookup_type_idx: F) -> Self
         requires { AnswersBelow (λ i r. F.gives lookup_type_idx i r) (length types.now.list.types) count }
         ensures types { result.types.now ≡ types.now }
@@ -86,9 +86,9 @@ impl<'a, F: TypeLookUp> WasmparserTypeConverter<'a, F> {
         }
     }
 
-    /// Looks up ids of a list of types besides: those of groups that the builder holds, at their interned indices, and
-    /// those of one group, which is interned next unless it is held, at the builder's next index plus their places in
-    /// it. It knows no other id.
+    /// Looks up ids of a list of types besides: those of groups that the builder holds, at their
+    /// interned indices, and those of one group, which is interned next unless it is held, at the
+    /// builder's next index plus their places in it. It knows no other id.
     pub fn with_rec_group(&mut self, types: &'a Types, rec_group: RecGroupId) -> &Self
         requires holds { StandGroups types.now (builder_view self.old.types.now) }
         requires room { (builder_view self.old.types.now).ids rec_group.0 ≡ None → length self.old.types.now.list.types + length (members_of types.now rec_group.0) < u32.MAX }

@@ -36,7 +36,8 @@ pub(crate) fn reference_to(
     }
 }
 
-/// Looks up ids of a list of types: those of groups that are interned, and those of the group that is interned next.
+/// Looks up ids of a list of types: those of groups that are interned, and those of the group that
+/// is interned next.
 #[derive(Clone, Copy)]
 pub(crate) struct GroupConverter<'a> {
     pub(crate) list: &'a ModuleTypes,

@@ -194,8 +194,8 @@ impl Interner {
         Ok(())
     }
 
-    /// Appends a group of a list of types, and then the trampolines that are missing. Where it is the first, digests of mapped types begin
-    /// from the list's seed.
+    /// Appends a group of a list of types, and then the trampolines that are missing. Where it is
+    /// the first, digests of mapped types begin from the list's seed.
     pub(crate) fn push_group(
         &mut self,
         alloc: Global,
@@ -212,10 +212,12 @@ impl Interner {
     {
         let next = self.list.next_ty();
         let members = types.members(id);
-        // With room for a trampoline, which functions of one group mostly share: without it the list would double for one type.
+        // With room for a trampoline, which functions of one group mostly share: without it the
+        // list would double for one type.
         self.list.reserve(members.len() + 1)?;
-        // Each is converted straight into the list: a list of them besides would be as long, and only be moved. So references of the group
-        // count from where it starts, and not from the list's next index.
+        // Each is converted straight into the list: a list of them besides would be as long, and
+        // only be moved. So references of the group count from where it starts, and not from the
+        // list's next index.
         for member in members {
             let list = &self.list;
             let converter = GroupConverter {

@@ -29,8 +29,8 @@ impl ModuleTypesBuilder {
         }
     }
 
-    /// Interns a group of a list of types, and gives its index. Where its id is held nothing changes; a new group is
-    /// appended, and then the trampolines that are missing.
+    /// Interns a group of a list of types, and gives its index. Where its id is held nothing
+    /// changes; a new group is appended, and then the trampolines that are missing.
     ///
     /// # Errors
     /// `OutOfMemory`, and from then on `Poisoned`.

@@ -23,7 +23,8 @@ ghost use Rattle.module_types.specs.Runs.{with_groups, runs, firsts, AllFilled};
 
 use wasm_types::WasmRecGroup;
 
-/// The groups of a builder lie behind one another, from the first type to the last: those of the empty one do, and each step keeps it.
+/// The groups of a builder lie behind one another, from the first type to the last: those of the
+/// empty one do, and each step keeps it.
 pub fn ranges_law()
     ensures none { IsOrderly empty }
     ensures group { (b : Built) (ts : List Interned) → 0 < length ts → IsOrderly b → IsOrderly (with_group b ts) }
@@ -49,8 +50,9 @@ pub fn one_trampoline_law()
         → trampoline_in b i ≡ Some k → trampoline_in b j ≡ Some l → (k ≡ l) ↔ (mapped f ≡ mapped g) }
 {}
 
-/// Each function type that is taken of a module has a trampoline, also in its interned list; in a builder each function member of a group
-/// that was interned has one, and keeps it. So `trampoline_type` may be called with it.
+/// Each function type that is taken of a module has a trampoline, also in its interned list; in a
+/// builder each function member of a group that was interned has one, and keeps it. So
+/// `trampoline_type` may be called with it.
 pub fn has_trampoline_law()
     ensures taken { (ms : List (Group ℕ ℕ)) → HaveTrampolines (length (taken ms).built.types) (taken ms).built }
     ensures interned { (ms : List (Group ℕ ℕ)) (tags : List ℕ) (startup : Bool) → HaveTrampolines (length (taken ms).built.types) (interned ms tags startup) }
@@ -62,20 +64,22 @@ pub fn has_trampoline_law()
     ensures shown { (b : BuilderState) (i : ℕ) → HasTrampoline (builder_view b).built i → IsSome (trampoline_at b.list i) }
 {}
 
-/// After one more group each id that a builder holds names the group that was interned under it, if it did so before and the new group
-/// has members of the same kinds.
+/// After one more group each id that a builder holds names the group that was interned under it, if
+/// it did so before and the new group has members of the same kinds.
 pub fn holds_law()
     ensures none { (t : TypesData) (validator : ℕ) → HoldsGroups t (new_builder validator) }
     ensures more { (t : TypesData) (b : Builder) (k : ℕ) (ts : List Interned)
         → HoldsGroups t b → kinds_of ts ≡ kinds_of (members_of t k) → HoldsGroups t (interns b k ts) }
 {}
 
-/// A builder that interned groups in turn holds those whose ids came for the first time, in that order, each with its trampolines.
+/// A builder that interned groups in turn holds those whose ids came for the first time, in that
+/// order, each with its trampolines.
 pub fn runs_law()
     ensures { (validator : ℕ) (calls : List (ℕ × List Interned)) → (runs (new_builder validator) calls).built ≡ with_groups empty (firsts [] calls) }
 {}
 
-/// Two lists of groups that are not empty are equal exactly where what is built of them has equal types and equal groups.
+/// Two lists of groups that are not empty are equal exactly where what is built of them has equal
+/// types and equal groups.
 pub fn built_groups_law()
     ensures { (tss uss : List (List Interned)) → AllFilled tss → AllFilled uss
         → (tss ≡ uss) ↔ (((with_groups empty tss).types ≡ (with_groups empty uss).types) × ((with_groups empty tss).groups ≡ (with_groups empty uss).groups)) }
@@ -86,8 +90,9 @@ pub fn earlier_law()
     ensures { (m : Module) → Keeps m → NameEarlier 0 (placed_groups m) }
 {}
 
-/// A builder that interned the declared groups of a module in turn holds what the definition takes, and each declared type at the index
-/// that the definition gives it; so two declared types have one interned index exactly where they are equal.
+/// A builder that interned the declared groups of a module in turn holds what the definition takes,
+/// and each declared type at the index that the definition gives it; so two declared types have one
+/// interned index exactly where they are equal.
 pub fn declared_groups_law()
     ensures taken { (m : Module) (t : TypesData) → AreNumbered m t → NameEarlier 0 (placed_groups m) → (validator : ℕ)
         → HasTaken t (interns_declared t (new_builder validator) 0 (placed_groups m)) (taken (placed_groups m)) }
@@ -117,20 +122,21 @@ pub fn same_type_law()
         → SameType ms (list_groups (interned ms tags startup)) i (get_or (taken ms).declared i 0) }
 {}
 
-/// Before exception types and the startup type the interned lists of two modules are equal exactly where the groups that are taken of
-/// the two are equally many and equal in turn.
+/// Before exception types and the startup type the interned lists of two modules are equal exactly
+/// where the groups that are taken of the two are equally many and equal in turn.
 pub fn equal_lists_law()
     ensures { (ms ns : List (Group ℕ ℕ)) → NameEarlier 0 ms → NameEarlier 0 ns
         → SameLists (taken ms).built (taken ns).built ↔ TakeEqual ms ns }
 {}
 
-/// In the interned list of a module each reference names a type of its own group or of an earlier one, by its kind.
+/// In the interned list of a module each reference names a type of its own group or of an earlier
+/// one, by its kind.
 pub fn well_named_law()
     ensures { (ms : List (Group ℕ ℕ)) → NameEarlier 0 ms → (tags : List ℕ) (startup : Bool) → IsWellNamed (interned ms tags startup) }
 {}
 
-/// Where the engine's indices of two lists' types are equal exactly for equal types, canonical forms of a group of each, over its own
-/// range, are equal exactly where the groups are.
+/// Where the engine's indices of two lists' types are equal exactly for equal types, canonical
+/// forms of a group of each, over its own range, are equal exactly where the groups are.
 pub fn compared_groups_law()
     ensures { (b b' : Built) → IsWellNamed b → IsWellNamed b' → (engine engine' : EngineMap) → TellTypes b b' engine engine'
         → (k l : ℕ) (x x' y y' : WasmRecGroup) → IsCompared b engine k x x' → IsCompared b' engine' l y y'
@@ -145,7 +151,8 @@ pub fn compared_before_law()
         → (x' ≡ y') ↔ SameGroup (λ i j. SameType (list_groups b) (list_groups b') i j) (group_at b k) (group_at b' l) }
 {}
 
-/// Where types of two lists have one engine's index exactly if they stand at one place of one canonical group, the indices tell types.
+/// Where types of two lists have one engine's index exactly if they stand at one place of one
+/// canonical group, the indices tell types.
 pub fn told_by_forms_law()
     ensures { (b b' : Built) → IsWellNamed b → IsWellNamed b' → (engine engine' : EngineMap) (olds forms olds' forms' : ℕ → WasmRecGroup)
         → AreCompared b engine olds forms → AreCompared b' engine' olds' forms' → OneIndex b b' engine engine' forms forms'

@@ -1,4 +1,5 @@
-//! The interned types of a module: each group once with its trampolines, then exception types and the startup type.
+//! The interned types of a module: each group once with its trampolines, then exception types and
+//! the startup type.
 #![tactic(auto)]
 
 mod builder;

@@ -26,8 +26,8 @@ pub(crate) struct MetType {
     pub(crate) before: u32,
 }
 
-/// The function types that were met: each by the index at which it stands in a list of types, so that none is kept twice. Those of one
-/// digest are chained, from the newest on.
+/// The function types that were met: each by the index at which it stands in a list of types, so
+/// that none is kept twice. Those of one digest are chained, from the newest on.
 #[derive(Drop)]
 pub(crate) struct MetTypes {
     pub(crate) hasher: Seeded,

@@ -11,8 +11,9 @@ use std::alloc::Global;
 use std::marker::{Model, PhantomData};
 use wasm_index::Index;
 
-/// The index that was noted under each number, if one was. Its memory grows with the greatest such number, so the numbers are to be those
-/// of a list that stands in memory. (A secondary map is for keys below `u32::MAX`; here each number may be a key.)
+/// The index that was noted under each number, if one was. Its memory grows with the greatest such
+/// number, so the numbers are to be those of a list that stands in memory. (A secondary map is for
+/// keys below `u32::MAX`; here each number may be a key.)
 #[derive(Drop)]
 pub(crate) struct NotedIndices<Space> {
     // Numbers of indices, and `u32::MAX` where none was noted.

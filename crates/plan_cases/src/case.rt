@@ -127,7 +127,8 @@ pub fn empty_case(alloc: Global) -> Result<Box<Case>, AllocError> {
     Ok(Box::new(alloc, case)?)
 }
 
-/// Whether the case has a name. No line of another kind is taken before its name, so a block without one has comments alone.
+/// Whether the case has a name. No line of another kind is taken before its name, so a block
+/// without one has comments alone.
 pub fn is_named(case: &Case) -> bool {
     !case.name.is_empty()
 }

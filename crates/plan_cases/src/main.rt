@@ -1,4 +1,5 @@
-//! Runs the planner over the cases of files, and says which of them gave something else than is written there.
+//! Runs the planner over the cases of files, and says which of them gave something else than is
+//! written there.
 #![tactic(auto)]
 
 mod case;
@@ -25,7 +26,8 @@ struct Totals {
     failed: u64,
 }
 
-/// Runs a case over the first `length` of its bytes, and reports it where it fails. Returns whether it passed.
+/// Runs a case over the first `length` of its bytes, and reports it where it fails. Returns whether
+/// it passed.
 fn try_length(rt: &HostRuntime, path: &str, case: &Case, length: u64) -> io::Result<bool> {
     match outcome_of(rt.alloc(), case, length) {
         Ok(outcome) => match difference_of(case, &outcome) {
@@ -42,7 +44,8 @@ fn try_length(rt: &HostRuntime, path: &str, case: &Case, length: u64) -> io::Res
     }
 }
 
-/// Runs a case over each number of its bytes that it names, up to the first that fails. Returns whether all passed.
+/// Runs a case over each number of its bytes that it names, up to the first that fails. Returns
+/// whether all passed.
 fn try_case(rt: &HostRuntime, path: &str, case: &Case) -> io::Result<bool> {
     for length in case.given.shortest..=case.given.longest {
         if !try_length(rt, path, case, length)? {

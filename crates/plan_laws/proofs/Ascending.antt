@@ -1,4 +1,5 @@
--- Lists in ascending order are told by what they contain: numbers by their members, and entries of a map by what is found at each key.
+-- Lists in ascending order are told by what they contain: numbers by their members, and entries of
+-- a map by what is found at each key.
 use Rattle.std.proofs.Common.{◌≡◌, ◌∙◌, ℕ, zero, suc, ◌<◌, ◌≤◌, List, [], ◌∷◌, length, map, get_or, Option, None, Some, nat_eq, refl, sym, ap, arith, inl, inr}
 use Rattle.std.specs.Prelude.{◌⊎◌, Contains}
 use Rattle.std.specs.Map.{lookup}

@@ -1,4 +1,5 @@
--- Known values of globals are had back where integers have the bits of their types, and names of functions from what is found at each number.
+-- Known values of globals are had back where integers have the bits of their types, and names of
+-- functions from what is found at each number.
 use Rattle.std.proofs.Common.{◌≡◌, ◌∙◌, ◌+◌, ◌<◌, ◌≤◌, ℕ, Bool, true, false, cond, List, [], ◌∷◌, ◌++◌, length, get_or, take, map, Option, None, Some, nat_eq, refl, sym, ap, subst, arith}
 use Rattle.std.specs.List.{All}
 use Rattle.std.specs.Int.{cast_signed, w32, w64}

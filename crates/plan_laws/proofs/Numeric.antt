@@ -1,4 +1,5 @@
--- The offset of a data segment has no null reference: what is on the stack once a reference is there keeps one.
+-- The offset of a data segment has no null reference: what is on the stack once a reference is
+-- there keeps one.
 use Rattle.std.proofs.Common.{Bool, true, false, List, [], ◌∷◌, ◌++◌, Option, None, Some, inl, inr, sym, subst}
 use Rattle.std.specs.Prelude.{slice_get, ◌⊎◌, if◌then◌else◌}
 use Rattle.std.specs.List.{All}

@@ -1,4 +1,5 @@
--- Two plans of the same memories hold the same but for where passive segments are found, and two of the same tables keep the same.
+-- Two plans of the same memories hold the same but for where passive segments are found, and two of
+-- the same tables keep the same.
 use Rattle.std.proofs.Common.{◌≡◌, ℕ, Bool, List, map, inl, inr}
 use Rattle.std.specs.Prelude.{◌⊎◌}
 use Rattle.std.proofs.lemmas.List.{append_cancel_left}

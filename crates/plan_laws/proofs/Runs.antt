@@ -1,4 +1,5 @@
--- Two runs over the same words and bytes that succeed write one text, and none succeeds where another refuses.
+-- Two runs over the same words and bytes that succeed write one text, and none succeeds where
+-- another refuses.
 use Rattle.std.proofs.Common.{◌≡◌, ℕ, List, [], ◌∷◌, ◌++◌, length, Option, Some, None, refl, sym, subst}
 use Rattle.std.specs.Prelude.{◌-◌, sum_by, codes}
 use Rattle.std.specs.declared.ops.Range.{Range}

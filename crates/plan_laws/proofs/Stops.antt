@@ -1,4 +1,5 @@
--- Where two spellings stop reading they are one, or one of them is a section of interface types, behind which reading may go on.
+-- Where two spellings stop reading they are one, or one of them is a section of interface types,
+-- behind which reading may go on.
 use Rattle.std.proofs.Common.{◌≡◌, ◌∙◌, ℕ, ◌+◌, List, [], ◌∷◌, ◌++◌, length, get_or, drop, Err, refl, sym, ap, inl, inr, arith, append_assoc, length-append}
 use Rattle.std.specs.Prelude.{◌⊎◌}
 use Rattle.wasm_spec.specs.declared.operators.What.{What}

@@ -1,4 +1,5 @@
--- How the tables of a plan begin is determined by the module: the initial values that are left, the segments that are left, and the images.
+-- How the tables of a plan begin is determined by the module: the initial values that are left, the
+-- segments that are left, and the images.
 use Rattle.std.proofs.Common.{◌≡◌, ◌∙◌, ℕ, zero, suc, ◌+◌, ◌<◌, true, false, Bool, List, [], ◌∷◌, length, get_or, drop, map, Option, None, Some, refl, sym, ap, subst, arith, length-drop}
 use Rattle.std.specs.Prelude.{slice_get, ◌==◌, unwrap_or}
 use Rattle.std.proofs.lemmas.List.{length-map}

@@ -1,4 +1,5 @@
--- What the types of a plan keep: the entries of a map stand in the order of their keys, and integers have the bits of their types.
+-- What the types of a plan keep: the entries of a map stand in the order of their keys, and
+-- integers have the bits of their types.
 use Rattle.std.specs.Prelude.{◌<◌, ℕ, All, List, [], ◌∷◌, map}
 use Rattle.std.specs.Int.{w32, w64}
 use Rattle.std.specs.Int.RustNames.{FitsSigned}
@@ -23,7 +24,8 @@ IsSized (I32 n) = FitsSigned w32 n
 IsSized (I64 n) = FitsSigned w64 n
 IsSized value = Unit {0}
 
--- the names of functions stand in the order of their numbers, and known values of globals are integers of their bits
+-- the names of functions stand in the order of their numbers, and known values of globals are
+-- integers of their bits
 pub record IsKept (plan : Plan) : Type 0 where
   pub names : Rises (map named plan.translation.debuginfo.name_section.func_names.entries)
   pub values : All (λ g. IsSized g.1) plan.translation.module.global_initializers.items

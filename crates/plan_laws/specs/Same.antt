@@ -1,5 +1,6 @@
--- Two plans that hold the same, field by field. Left out are capacities, seeds of hash tables, where borrowed bytes lie, and the types by their
--- ids, which are the form reader's own and which no line prints.
+-- Two plans that hold the same, field by field. Left out are capacities, seeds of hash tables,
+-- where borrowed bytes lie, and the types by their ids, which are the form reader's own and which
+-- no line prints.
 use Rattle.std.specs.Prelude.{◌≡◌, ℕ, List, [], map, Option, None}
 use Rattle.std.specs.Option.{option_map, option_and_then}
 use Rattle.entity_map.specs.Secondary.{value_at}

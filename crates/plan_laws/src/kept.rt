@@ -7,7 +7,8 @@ use plan::Plan;
 use wasm_convert::GlobalConstValue;
 use wasm_index::DefinedGlobalIndex;
 
-/// The names of functions stand in the order of their numbers, and known values of globals are integers of their bits.
+/// The names of functions stand in the order of their numbers, and known values of globals are
+/// integers of their bits.
 pub(crate) fn keeps(plan: &Plan)
     ensures { IsKept plan.now }
 {

@@ -16,7 +16,8 @@ use command_words::read_words;
 use plan::{Plan, TranslateError};
 use translate::{causes_law, sizes_law};
 
-/// The plan is determined. Two plans of the same bytes, planned with the same options, have one text, and hold the same.
+/// The plan is determined. Two plans of the same bytes, planned with the same options, have one
+/// text, and hold the same.
 pub fn determined_law(p: &Plan, q: &Plan)
     ensures text { (o : Options) (bytes : List ℕ) → IsPlanned o bytes p.now → IsPlanned o bytes q.now → text_of_plan p.now ≡ text_of_plan q.now }
     ensures same { (o : Options) (bytes : List ℕ) → IsPlanned o bytes p.now → IsPlanned o bytes q.now → SamePlan p.now q.now }
@@ -26,8 +27,9 @@ pub fn determined_law(p: &Plan, q: &Plan)
     keeps(q);
 }
 
-/// Two runs over the same words that came to the same bytes, and succeeded, wrote the same text: that of their plans, or the summary of a
-/// module that was made. The clause speaks of what `run` promises of a report with status 0.
+/// Two runs over the same words that came to the same bytes, and succeeded, wrote the same text:
+/// that of their plans, or the summary of a module that was made. The clause speaks of what `run`
+/// promises of a report with status 0.
 pub fn runs_law(words: &[String], p: &Plan, q: &Plan)
     ensures { (bytes : List ℕ) (left rest before after old new : Option (List ℕ)) (refusal other : Option TranslateError)
         → Commands (map string_bytes words.now) (IsSuccess bytes left (Some p.now) refusal before after)
@@ -37,8 +39,9 @@ pub fn runs_law(words: &[String], p: &Plan, q: &Plan)
     determined_law(p, q);
 }
 
-/// Bytes that are not too long are refused for one cause, where memory does not run out: two that stand are equal, but for the pairs that
-/// `MayBothStand` names. Bytes that have a plan have no cause.
+/// Bytes that are not too long are refused for one cause, where memory does not run out: two that
+/// stand are equal, but for the pairs that `MayBothStand` names. Bytes that have a plan have no
+/// cause.
 pub fn refusals_law()
     ensures one { (o : Options) (bytes : List ℕ) (e f : TranslateError) → length bytes < 2 ^ 30 → HasCause o bytes e → HasCause o bytes f
         → e ≢ TranslateError.OutOfMemory → f ≢ TranslateError.OutOfMemory → (e ≡ f) ⊎ MayBothStand e f }

@@ -36,7 +36,8 @@ kind_number (entity.Tag i) = number_of i
 abbrev pub entity_text : EntityIndex → List ℕ
 entity_text e = kind_text e ++ codes " " ++ decimal (kind_number e)
 
--- an import: its place among the imports, the name of the module from which it comes, its own name, and its entity
+-- an import: its place among the imports, the name of the module from which it comes, its own name,
+-- and its entity
 unfoldable pub import_line : List (List ℕ) → ℕ → Atom → Atom → EntityIndex → List ℕ
 import_line pool place name field e =
     codes "import " ++ decimal place ++ codes " " ++ quoted_atom pool name ++ codes " " ++ quoted_atom pool field ++ codes " " ++ entity_text e ++ codes "\n"

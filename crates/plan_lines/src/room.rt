@@ -1,4 +1,5 @@
-//! Room in memory, of which the first bytes are in use. What is written says where it ends; what is behind may be anything.
+//! Room in memory, of which the first bytes are in use. What is written says where it ends; what is
+//! behind may be anything.
 
 ghost use Rattle.std.specs.Prelude.{◌≡◌, ◌+◌, ◌<◌, ◌≤◌, ◌++◌, ◌∷◌, [], ℕ, length, take, vec_len, OnOk};
 
@@ -25,7 +26,8 @@ pub(crate) fn make_room(
     extend(room, additional)
 }
 
-// Adds so many bytes at least. It is apart from the test of whether it is needed, which stands where bytes are written.
+// Adds so many bytes at least. It is apart from the test of whether it is needed, which stands
+// where bytes are written.
 #[cold]
 #[inline(never)]
 fn extend(room: &mut Vec<u8>, additional: usize) -> Result<(), OutOfMemory>

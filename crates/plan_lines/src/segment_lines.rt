@@ -39,7 +39,8 @@ fn append_table_expression(
     text.push_byte(b'\n')
 }
 
-/// Appends the line of a table whose cells begin as the value of an expression; a table of null references has none.
+/// Appends the line of a table whose cells begin as the value of an expression; a table of null
+/// references has none.
 pub fn append_table_value(
     text: &mut Text,
     table: DefinedTableIndex,

@@ -14,7 +14,8 @@ ghost use Rattle.plan_lines.specs.MemoryLines.{alignment_lines, image_lines, pas
 use wasm_convert::{ConstOp, GlobalConstValue};
 use wasm_types::{EngineOrModuleTypeIndex, WasmHeapType};
 
-/// Integers are signed, floats and vectors are their bits, and operators are joined by a semicolon and a space.
+/// Integers are signed, floats and vectors are their bits, and operators are joined by a semicolon
+/// and a space.
 pub fn worked_expressions()
     ensures minus_one { operator_text (ConstOp.I32Const (negsuc 0)) ≡ codes "i32.const -1" }
     ensures wide { operator_text (ConstOp.I64Const (pos 20)) ≡ codes "i64.const 20" }
@@ -29,7 +30,8 @@ pub fn worked_expressions()
         ≡ codes "i32.const 1; i64.const -2" }
 {}
 
-/// Names stand between quotes. A zero byte, a quote, a backslash and a byte past ASCII are a backslash and two digits.
+/// Names stand between quotes. A zero byte, a quote, a backslash and a byte past ASCII are a
+/// backslash and two digits.
 pub fn worked_names()
     ensures plain { quoted_text (codes "memory") ≡ codes "\"memory\"" }
     ensures escaped { quoted_text (0 ∷ 0x22 ∷ 0x61 ∷ 0x5C ∷ 0xE9 ∷ []) ≡ codes "\"\\00\\22a\\5c\\e9\"" }

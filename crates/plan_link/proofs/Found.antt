@@ -1,4 +1,5 @@
--- What the record of a translated module imports and exports has its names in the pool, and its entity in the record.
+-- What the record of a translated module imports and exports has its names in the pool, and its
+-- entity in the record.
 use Rattle.std.proofs.Common.{◌≡◌, ◌∙◌, ◌<◌, ℕ, List, [], ◌∷◌, ◌++◌, length, get_or, map, slice_get, All, Option, Some, refl, ap, arith, length-append, append_assoc}
 use Rattle.std.specs.Prelude.{IsSome, is_some}
 use Rattle.std.specs.List.{cons_option, filter_map, flat_map, enumerate_from}

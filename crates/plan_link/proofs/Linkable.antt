@@ -61,7 +61,8 @@ have-types : (count : ℕ) (ds : List Definition) → All (λ (d : Definition). 
 have-types count ds all None same = tt
 have-types count ds all (Some n) same = subst (λ (k : ℕ). All (λ (d : Definition). All (IsTypeBelow k) (types_in d.1)) ds) (sym same) all
 
--- a record that has the entities of a module that keeps the rules, whose types are among those of a list that may be registered
+-- a record that has the entities of a module that keeps the rules, whose types are among those of a
+-- list that may be registered
 module _ (m : plain.Module) (keeps : Keeps m) (r : Module) (has : HasEntitiesOf m r) (l : TypeList)
     (below : All (IsTypeBelow (length l.types)) (types_of r)) where
   pub linkable-of : Listed l → length l.types < 4294967295 → IsLinkable r l

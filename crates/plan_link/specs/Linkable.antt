@@ -12,7 +12,8 @@ use Rattle.import_match.specs.Linking.{CanExport, CanImport}
 abbrev pub HasCount : RegistryState → ModuleKey → ℕ → Type 0
 HasCount registry key count = IfSome (count_of (registry_of registry) (key_number key)) (λ held. held ≡ count)
 
--- its types may be registered; under each key that has so many types, its exports may be defined and its imports resolved
+-- its types may be registered; under each key that has so many types, its exports may be defined
+-- and its imports resolved
 pub record IsLinkable (m : Module) (l : TypeList) : Type 0 where
   pub listed : Listed l
   pub few : length l.types < 4294967295

@@ -19,7 +19,8 @@ ghost use Rattle.plan_link.specs.Linkable.{IsLinkable};
 use module_types::well_named_law;
 use type_registry::listed_law;
 
-/// The types of a translated module may be registered. Under a key that has as many types, its exports may be defined and its imports resolved.
+/// The types of a translated module may be registered. Under a key that has as many types, its
+/// exports may be defined and its imports resolved.
 pub fn translated_can_link()
     ensures { (tunables : Tunables) (module_index : Index StaticModuleSpace) (validator : ℕ) (bytes : List ℕ) (t : ModuleTranslation) (b : BuilderState)
         → IsTranslated tunables module_index validator bytes t b → IsLinkable t.module b.list }
@@ -27,7 +28,8 @@ pub fn translated_can_link()
     listed_law();
 }
 
-/// So may the types of a plan and the module of its translation. It has fewer types than half of those that a registry may hold.
+/// So may the types of a plan and the module of its translation. It has fewer types than half of
+/// those that a registry may hold.
 pub fn planned_can_link()
     ensures linkable { (o : Options) (bytes : List ℕ) (plan : Plan) → IsPlanned o bytes plan → IsLinkable plan.translation.module plan.types }
     ensures types { (o : Options) (bytes : List ℕ) (plan : Plan) → IsPlanned o bytes plan → length plan.types.types < 2 ^ 31 }

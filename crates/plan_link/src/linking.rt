@@ -16,11 +16,12 @@ use type_registry::{TypeRegistry, same_law};
 /// As many types as a registry may hold, and more than two modules have.
 const MOST_TYPES: u32 = u32::MAX - 1;
 
-/// What each import of the second module is given by the exports of the first, which are defined under the name `as_module`: an answer an
-/// import, in order, each by itself.
+/// What each import of the second module is given by the exports of the first, which are defined
+/// under the name `as_module`: an answer an import, in order, each by itself.
 ///
 /// # Errors
-/// Memory alone can end: a registry has room for the types of any two plans, and no two exports have one name.
+/// Memory alone can end: a registry has room for the types of any two plans, and no two exports
+/// have one name.
 pub fn link_plans(
     alloc: Global,
     exporter: &Plan<'_>,

@@ -40,7 +40,8 @@ written-item i place p old d on l is =
 
 -- ---- objects
 
--- while pieces are written: the objects hold items over which those that are left leave what the whole phase leaves
+-- while pieces are written: the objects hold items over which those that are left leave what the
+-- whole phase leaves
 pub record IsWriting {A : Type 0} (phase : Phase A) (rest : List (Piece A)) (objects : List (List A)) : Type 0 where
   pub item : ℕ → ℕ → A
   pub hold : Hold phase.sizes item objects

@@ -1,4 +1,5 @@
--- When a translation can be laid. Expressions need not be typed: one that has no value is null, or the place 0.
+-- When a translation can be laid. Expressions need not be typed: one that has no value is null, or
+-- the place 0.
 use Rattle.std.specs.Prelude.{◌≡◌, ◌⊎◌, ℕ, ◌-◌, ◌<◌, ◌≤◌, length, All, Some, slice_get}
 use Rattle.wasm_index.specs.Index.{number_of}
 use Rattle.wasm_types.specs.declared.memory.Memory.{Memory}
@@ -14,7 +15,8 @@ abbrev pub IsStatic : PlannedOffset → Type 0
 IsStatic (Expr e) = ⊥
 IsStatic (Static place) = Unit {0}
 
--- an image is of a defined memory, lies within its minimum size, and is whole pages; no segment is then left to be written
+-- an image is of a defined memory, lies within its minimum size, and is whole pages; no segment is
+-- then left to be written
 pub record ImageFits (t : ModuleTranslation) (i : ℕ) (image : ℕ × ℕ) : Type 0 where
   pub defined : t.module.num_imported_memories ≤ i
   pub within : (memory : Memory) → slice_get t.module.memories i ≡ Some memory
@@ -30,7 +32,8 @@ pub record GlobalsAreFinished (t : ModuleTranslation) : Type 0 where
   pub simple : All (λ g. number_of g.0 < length t.module.globals - t.module.num_imported_globals) t.module.global_initializers.items
   pub kept : All (λ g. number_of g.0 < length t.module.globals - t.module.num_imported_globals) t.global_initializers.items
 
--- the segments are planned, each for a memory that there is; imports are within the memories, a page of which is 1 or 65536 bytes
+-- the segments are planned, each for a memory that there is; imports are within the memories, a
+-- page of which is 1 or 65536 bytes
 pub record MemoriesAreFinished (t : ModuleTranslation) : Type 0 where
   pub processed : IsProcessed t.memory_init
   pub imports : t.module.num_imported_memories ≤ length t.module.memories
@@ -39,8 +42,8 @@ pub record MemoriesAreFinished (t : ModuleTranslation) : Type 0 where
   pub segments : All (λ s. s.memory < length t.module.memories) (memory_plan_of t).segments
   pub images : ImagesFit t
 
--- imports are within the tables; each defined one has an initial value and an image that is not longer than its minimum; each segment is for a
--- table that there is
+-- imports are within the tables; each defined one has an initial value and an image that is not
+-- longer than its minimum; each segment is for a table that there is
 pub record TablesAreFinished (t : ModuleTranslation) : Type 0 where
   pub imports : t.module.num_imported_tables ≤ length t.module.tables
   pub counted : AreCounted t

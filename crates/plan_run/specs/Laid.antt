@@ -72,7 +72,8 @@ pub record LendsImage (size : ℕ) (image : Option (ℕ × List ℕ)) (memory : 
   pub page_size : memory.page ≡ size
   pub lent : (page : ℕ) → lends memory page ≡ is_of_image size image page
 
--- defined memories lend the images that they begin with; imported memories lend what they lent, but for the pages that the phase is written to
+-- defined memories lend the images that they begin with; imported memories lend what they lent, but
+-- for the pages that the phase is written to
 pub record PagesAreLent (t : ModuleTranslation) (w : Way) (phase : Phase ℕ) (imported memories : List Contents) : Type 0 where
   pub defined : (i : ℕ) (memory : Contents) → slice_get memories i ≡ Some memory → t.module.num_imported_memories ≤ i
       → LendsImage (page_size_of t) (image_in w (memory_plan_of t) i) memory

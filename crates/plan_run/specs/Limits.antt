@@ -23,7 +23,8 @@ own_memories t = drop t.module.num_imported_memories t.module.memories
 abbrev pub page_size_of : ModuleTranslation → ℕ
 page_size_of t = unwrap_or t.data_align 4096
 
--- the minimum sizes of the defined memories, their pages, or the minimum sizes of the defined tables pass what they may be together
+-- the minimum sizes of the defined memories, their pages, or the minimum sizes of the defined
+-- tables pass what they may be together
 abbrev pub IsTooLarge : ModuleTranslation → Type 0
 IsTooLarge t = (most_bytes < sum_by minimum_bytes (own_memories t))
     ⊎ ((most_pages < sum_by (λ memory. page_count (page_size_of t) (minimum_bytes memory)) (own_memories t))

@@ -32,13 +32,15 @@ abbrev pub still_lent : ℕ → ℕ → ℕ → Bool → List (Piece ℕ) → Bo
 still_lent size memory page lent [] = lent
 still_lent size memory page lent (p ∷ ps) = still_lent size memory page (if reaches size memory page p then false else lent) ps
 
--- memories to which a phase is written: each has pages of the size that it had, and lends those that it lent, but for those that are written to
+-- memories to which a phase is written: each has pages of the size that it had, and lends those
+-- that it lent, but for those that are written to
 pub record LendOn (phase : Phase ℕ) (old new : List Contents) : Type 0 where
   pub sizes : (i : ℕ) (before after : Contents) → slice_get old i ≡ Some before → slice_get new i ≡ Some after → after.page ≡ before.page
   pub lent : (i page : ℕ) (before after : Contents) → slice_get old i ≡ Some before → slice_get new i ≡ Some after
       → lends after page ≡ still_lent before.page i page (lends before page) (before_trap phase.sizes phase.pieces)
 
--- as many memories, each with pages of the size that it had, which lends those that it lent, but for those that a piece is written to
+-- as many memories, each with pages of the size that it had, which lends those that it lent, but
+-- for those that a piece is written to
 pub record LendBut (p : Piece ℕ) (old new : List Contents) : Type 0 where
   pub count : length new ≡ length old
   pub sizes : (i : ℕ) (before after : Contents) → slice_get old i ≡ Some before → slice_get new i ≡ Some after → after.page ≡ before.page

@@ -32,7 +32,8 @@ imported_value v = value_in [] v
 
 -- ---- nodes
 
--- what an operator that is kept in a node makes of its arguments: a conversion of one reference, or else a new object
+-- what an operator that is kept in a node makes of its arguments: a conversion of one reference, or
+-- else a new object
 abbrev pub kept_term : Operator → List plain.Value → Term
 kept_term op.ExternConvertAny (plain.Ref term ∷ []) = plain.AsExtern term
 kept_term op.AnyConvertExtern (plain.Ref term ∷ []) = plain.AsAny term

@@ -12,7 +12,8 @@ use Rattle.plan_run.specs.declared.laid.Way.TheVariants.{Map}
 use Rattle.plan_run.specs.Finished.{Finished}
 use Rattle.plan_run.specs.Laid.{data_phase, MemoriesAreLaid, PagesAreLent, LendImages}
 
--- the first memory is a defined one, and begins with an image of one page of 4096 bytes, in which 1, 9, 3 stand from 16 on
+-- the first memory is a defined one, and begins with an image of one page of 4096 bytes, in which
+-- 1, 9, 3 stand from 16 on
 pub record HasOverlap (t : ModuleTranslation) (index : ℕ) : Type 0 where
   pub imports : t.module.num_imported_memories ≡ 0
   pub page : t.data_align ≡ Some 4096
@@ -28,7 +29,8 @@ pub record IsWritten (at : ℕ) (items : List ℕ) (old new : Contents) : Type 0
   pub page : new.page ≡ old.page
   pub lent : new.lent ≡ not_lent (at / old.page) (reached old.page at items) old.lent
 
--- the bytes are those of the image, whose page is lent; with a byte written over it no page is, and the image is what it was
+-- the bytes are those of the image, whose page is lent; with a byte written over it no page is, and
+-- the image is what it was
 pub record OverlapIsSeen (t : ModuleTranslation) (index : ℕ) (memory after : Contents) : Type 0 where
   pub first : slice_get memory.bytes 16 ≡ Some 1
   pub second : slice_get memory.bytes 17 ≡ Some 9

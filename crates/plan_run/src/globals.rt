@@ -18,7 +18,8 @@ use std::alloc::Global;
 use wasm_convert::{ConstExpr, GlobalConstValue};
 use wasm_index::DefinedGlobalIndex;
 
-/// Writes the values of globals that are known before any code runs; the first `imports` globals are imported.
+/// Writes the values of globals that are known before any code runs; the first `imports` globals
+/// are imported.
 fn write_simple(
     values: &[(DefinedGlobalIndex, GlobalConstValue)],
     imports: usize,

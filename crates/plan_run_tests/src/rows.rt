@@ -61,8 +61,9 @@ fn an_image_is_lent_or_copied(rt: HostRuntime) -> Result<(), Fail> {
     expect(&rt, alloc, row, want)
 }
 
-/// Two memories, of which the first is imported: 10, 11, 12, 13 are written to it from 14 on, across the second of its lent pages and one
-/// that is zero. 5, 6 are written to the other from 16 on.
+/// Two memories, of which the first is imported: 10, 11, 12, 13 are written to it from 14 on,
+/// across the second of its lent pages and one that is zero. 5, 6 are written to the other from 16
+/// on.
 const TWO_MEMORIES: Row = Row {
     sections: &[
         0x02, 0x08, 0x01, 0x01, 0x6D, 0x01, 0x61, 0x02, 0x00, 0x00, 0x05, 0x03, 0x01, 0x00, 0x01,
@@ -153,8 +154,9 @@ const TABLE: Row = Row {
     ..ROW
 };
 
-/// A table of two cells with an initialiser, which is null, and one of four cells, whose image is null and the functions 0, 1. Function 1 is
-/// written to the first; what is to be written to the other does not fit.
+/// A table of two cells with an initialiser, which is null, and one of four cells, whose image is
+/// null and the functions 0, 1. Function 1 is written to the first; what is to be written to the
+/// other does not fit.
 const TWO_TABLES: Row = Row {
     sections: &[
         0x01, 0x04, 0x01, 0x60, 0x00, 0x00, 0x03, 0x03, 0x02, 0x00, 0x00, 0x04, 0x0C, 0x02, 0x40,
@@ -221,7 +223,8 @@ const NEXT_GLOBAL: Row = Row {
     ..ROW
 };
 
-/// The same two globals, an object of the first and null, an object of the second and the first object, and that object as a host sees it.
+/// The same two globals, an object of the first and null, an object of the second and the first
+/// object, and that object as a host sees it.
 const OBJECTS: Row = Row {
     sections: &[
         0x01, 0x07, 0x01, 0x5F, 0x02, 0x7F, 0x00, 0x6E, 0x00, 0x02, 0x08, 0x01, 0x01, 0x6D, 0x01,

@@ -36,7 +36,8 @@ fn read_heap_number(ty: &HeapType) -> u8
     }
 }
 
-// Which list the type that a heap type names is of: 0 none, 3 its group, 4 the type section, 5 a list of types by ids.
+// Which list the type that a heap type names is of: 0 none, 3 its group, 4 the type section, 5 a
+// list of types by ids.
 fn read_index_list(ty: &HeapType) -> u8
     ensures { result ≡ read_index_list ty.now }
 {

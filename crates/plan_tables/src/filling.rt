@@ -24,8 +24,9 @@ use entity_map::OutOfMemory;
 use plan::Plan;
 use std::alloc::Global;
 
-/// Puts the tables of a plan into a record. They stand in memory that nothing of this library holds on to; bytes that the plan has from the module
-/// stay there. The plan is left without the bytes of its runtime data.
+/// Puts the tables of a plan into a record. They stand in memory that nothing of this library holds
+/// on to; bytes that the plan has from the module stay there. The plan is left without the bytes of
+/// its runtime data.
 ///
 /// # Errors
 /// `OutOfMemory` where a table finds no memory: the record has the tables that were made before then.

@@ -10,7 +10,8 @@ use entity_map::OutOfMemory;
 use init_plan::ModuleTranslation;
 use std::alloc::Global;
 
-/// Puts the constant expressions of a translation into a record. Where memory ends it has those that were made.
+/// Puts the constant expressions of a translation into a record. Where memory ends it has those
+/// that were made.
 pub(crate) fn fill_places<'d>(
     alloc: Global,
     translation: &ModuleTranslation<'_>,

@@ -1,7 +1,8 @@
 //! The record of a plan, which C can read.
 //!
-//! `embed/generate` makes the structs of C and Rust from this file, as of `rows`. A part of the plan without a name in C is no struct there: its fields
-//! are fields of the plan. A list of the plan is freed with it.
+//! `embed/generate` makes the structs of C and Rust from this file, as of `rows`. A part of the
+//! plan without a name in C is no struct there: its fields are fields of the plan. A list of the
+//! plan is freed with it.
 
 use crate::rows::{
     BranchHintRow, Context, ElementsRow, Entities, ExportRow, Facts, FieldRow, GlobalRow,
@@ -172,7 +173,8 @@ pub struct FunctionsRecord<'d> {
 pub struct GlobalsRecord<'d> {
     /// The defined globals that begin as a known value: `global_values`.
     pub values: &'d [GlobalValueRow],
-    /// The defined globals that begin as the value of an expression, each by its number among the defined ones: `expressed_globals`.
+    /// The defined globals that begin as the value of an expression, each by its number among the
+    /// defined ones: `expressed_globals`.
     pub expressed: &'d [u32],
 }
 
@@ -248,7 +250,8 @@ pub struct NamesRecord<'d> {
 pub struct PlanRecord<'d> {
     /// Why the module is refused, from `BOBBINAZURE_MALFORMED` on; 0 of a plan.
     pub refusal: u32,
-    /// Of an invalid module the rule that it breaks, from 1 to 10; of an unsupported one what is not taken, from `BOBBINAZURE_COMPONENT` on.
+    /// Of an invalid module the rule that it breaks, from 1 to 10; of an unsupported one what is
+    /// not taken, from `BOBBINAZURE_COMPONENT` on.
     pub refusal_detail: u32,
     /// The line of the refusal, as the program prints it. It is never freed.
     pub refusal_line: &'static [u8],

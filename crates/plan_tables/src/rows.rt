@@ -1,9 +1,11 @@
 //! Rows of numbers, with C's layout.
 //!
-//! `embed/generate` makes the structs of C and Rust from this file: a struct's comment ends with its name in C, a field's with its name in C where
-//! that is another one, and the rest is its comment there. A `u8` whose comment begins with `Whether` is a `bool` in Rust.
+//! `embed/generate` makes the structs of C and Rust from this file: a struct's comment ends with
+//! its name in C, a field's with its name in C where that is another one, and the rest is its
+//! comment there. A `u8` whose comment begins with `Whether` is a `bool` in Rust.
 
-/// How many entities of each kind there are, imported ones among them, and how many are imported: `bobbinazure_entities`.
+/// How many entities of each kind there are, imported ones among them, and how many are imported:
+/// `bobbinazure_entities`.
 #[repr(C)]
 #[derive(Clone, Copy)]
 pub struct Entities {
@@ -33,7 +35,8 @@ pub struct Entities {
 #[repr(C)]
 #[derive(Clone, Copy)]
 pub struct Facts {
-    /// When the startup function runs, from `BOBBINAZURE_STARTUP_NONE` on: never, always, or where a memory does not begin as its image.
+    /// When the startup function runs, from `BOBBINAZURE_STARTUP_NONE` on: never, always, or where
+    /// a memory does not begin as its image.
     pub startup: u32,
     /// The interned type of the startup function; 0 where there is none.
     pub startup_type: u32,
@@ -119,7 +122,8 @@ pub struct Span {
 #[repr(C)]
 #[derive(Clone, Copy)]
 pub struct ValueRow {
-    /// What it is, from `BOBBINAZURE_I32` on: 0 to 4 a number or a vector, 5 a reference, 6 and 7 a packed integer.
+    /// What it is, from `BOBBINAZURE_I32` on: 0 to 4 a number or a vector, 5 a reference, 6 and 7 a
+    /// packed integer.
     pub kind: u8,
     /// Whether the reference may be null.
     pub nullable: u8,
@@ -201,7 +205,8 @@ pub struct SegmentRow {
     pub memory: u32,
     /// The runtime data that it writes.
     pub runtime: u32,
-    /// How `offset` gives its address, from `BOBBINAZURE_AT_BYTE` on: 0 as a planned address, 1 as a constant, 2 as a global, 3 not at all.
+    /// How `offset` gives its address, from `BOBBINAZURE_AT_BYTE` on: 0 as a planned address, 1 as
+    /// a constant, 2 as a global, 3 not at all.
     pub kind: u32,
     /// The address in bytes, or the index of the global that holds it; 0 where another expression gives it.
     pub offset: u64,
@@ -249,7 +254,8 @@ pub struct ItemsRow {
 pub struct LocalsRow {
     /// How many locals.
     pub count: u32,
-    /// Their type. A type of the module is named by the type section: `list` is `BOBBINAZURE_OF_SECTION`, and `heap` is `BOBBINAZURE_HEAP_DECLARED`.
+    /// Their type. A type of the module is named by the type section: `list` is
+    /// `BOBBINAZURE_OF_SECTION`, and `heap` is `BOBBINAZURE_HEAP_DECLARED`.
     pub value: ValueRow,
 }
 
@@ -383,7 +389,8 @@ pub struct LayoutFieldRow {
 #[repr(C)]
 #[derive(Clone, Copy)]
 pub struct TypeRow {
-    /// What it is, from `BOBBINAZURE_ARRAY` on: 0 an array, 1 a function, 2 a struct, 3 a continuation, 4 an exception.
+    /// What it is, from `BOBBINAZURE_ARRAY` on: 0 an array, 1 a function, 2 a struct, 3 a
+    /// continuation, 4 an exception.
     pub kind: u8,
     /// Whether it can have no subtypes.
     pub is_final: u8,

@@ -22,7 +22,8 @@ fn taken_row<'d>(bytes: &mut RuntimeBytes<'d>) -> RuntimeRow<'d>
     }
 }
 
-/// As many rows without bytes as are asked for: the room for those that are taken, so that nothing can fail once one is.
+/// As many rows without bytes as are asked for: the room for those that are taken, so that nothing
+/// can fail once one is.
 pub(crate) fn empty_rows<'d>(
     alloc: Global,
     count: usize,

@@ -1,4 +1,5 @@
-//! Rows of where the fields of the structs begin that compiled code reads, with C's layout; `embed/generate` reads them as those of `rows`.
+//! Rows of where the fields of the structs begin that compiled code reads, with C's layout;
+//! `embed/generate` reads them as those of `rows`.
 //!
 //! Each number is in bytes, and a field's is counted from the begin of its struct.
 

@@ -9,7 +9,8 @@ use Rattle.plan_lines.specs.Numbers.{numbers_line}
 abbrev pub runtime_total : Plan → ℕ
 runtime_total plan = sum_by (λ range. range.end - range.start) plan.translation.module.runtime_data
 
--- its number, its bytes, its types, the bytes of its runtime data, and the lines of startup and of the context
+-- its number, its bytes, its types, the bytes of its runtime data, and the lines of startup and of
+-- the context
 unfoldable pub summary_of : ℕ → ℕ → Plan → List ℕ
 summary_of number bytes plan =
     numbers_line (codes "generated") (number ∷ [])

@@ -29,7 +29,8 @@ pub fn plan_text(alloc: Global, plan: &Plan<'_>) -> Result<Vec<u8>, OutOfMemory>
     requires { IsPrintable plan.now.translation }
     ensures { IfOk result (λ text. text.items ≡ text_of_plan plan.now) }
 {
-    // A long text that grows is moved, and memory that is not written costs nothing: so it begins with more room than most texts take.
+    // A long text that grows is moved, and memory that is not written costs nothing: so it begins
+    // with more room than most texts take.
     let length = plan.translation.wasm.len();
     let mut text = Text::with_capacity(alloc, 4 * length.min(MOST_ROOM / 4))?;
     append_types(&mut text, &plan.types)?;

@@ -9,8 +9,8 @@ use plan_lines::{Text, append_context, append_numbers, append_startup};
 use std::alloc::Global;
 use wasm_index::RuntimeDataIndex;
 
-/// The summary of the plan of a module that was made: its number, its size in bytes, how many types it has, the bytes of its runtime data,
-/// and the lines of startup and of the context.
+/// The summary of the plan of a module that was made: its number, its size in bytes, how many types
+/// it has, the bytes of its runtime data, and the lines of startup and of the context.
 ///
 /// # Errors
 /// `OutOfMemory` where the text finds no memory.

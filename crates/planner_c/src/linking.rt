@@ -20,9 +20,10 @@ use plan_link::{ImportAnswer, link_plans, mismatch_line};
 use std::alloc::Global;
 use translate::{NO_MEMORY, REFUSED, SUCCESS, USAGE, refusal_line};
 
-/// Plans two modules, and puts into the record what each import of the second is given by the exports of the first, which stand under the name
-/// `as_module`: `bobbinazure_link`.
-/// Answers 0 where both are planned, 1 where one is refused, 2 where the options are wrong or the name is not UTF-8, 5 where there is no memory.
+/// Plans two modules, and puts into the record what each import of the second is given by the
+/// exports of the first, which stand under the name `as_module`: `bobbinazure_link`.
+/// Answers 0 where both are planned, 1 where one is refused, 2 where the options are wrong or the
+/// name is not UTF-8, 5 where there is no memory.
 /// At 2 and 5 the record is as it was.
 #[unsafe(no_mangle)]
 pub extern "C" fn bobbinazure_link<'d>(
@@ -34,11 +35,13 @@ pub extern "C" fn bobbinazure_link<'d>(
     out: &mut LinkRecord<'d>,
 ) -> u32
     ensures statuses { IsStatus result }
-    // Both spell modules that keep the listed rules, and the record tells what each import of the second is given.
+    // Both spell modules that keep the listed rules, and the record tells what each import of the
+    // second is given.
     ensures planned { result ≡ 0 → LinksPlans options.now exporter.now importer.now as_module.now out.new }
     // The refusal that is told has its cause, and is of the first module that is refused.
     ensures refused { result ≡ 1 → RefusesOne options.now exporter.now importer.now out.new }
-    // Wrong options, or a name that is not UTF-8, are told, exactly; where nothing is answered, nothing is changed.
+    // Wrong options, or a name that is not UTF-8, are told, exactly; where nothing is answered,
+    // nothing is changed.
     ensures usage { (result ≡ 2) ↔ ¬ (AreRight options.now × IsUtf8 as_module.now) }
     ensures same { (result ≡ 2) ⊎ (result ≡ 5) → out.new ≡ out.old }
     // Valid input is not refused.
@@ -59,7 +62,8 @@ pub extern "C" fn bobbinazure_link<'d>(
     }
 }
 
-/// Puts a refusal into a record, and which module it is of. Answers 1, or 5 where memory ended and the record is as it was.
+/// Puts a refusal into a record, and which module it is of. Answers 1, or 5 where memory ended and
+/// the record is as it was.
 fn tell_refusal_of(which: u32, refusal: &TranslateError, out: &mut LinkRecord<'_>) -> u32
     ensures statuses { (result ≡ 1) ⊎ (result ≡ 5) }
     ensures told { result ≡ 1 → TellsRefusalOf which refusal.now out.new }
@@ -79,7 +83,8 @@ fn tell_refusal_of(which: u32, refusal: &TranslateError, out: &mut LinkRecord<'_
     }
 }
 
-/// Links two plans, and puts the answers into a record. Answers 0, or 5 where memory ended and the record is as it was.
+/// Links two plans, and puts the answers into a record. Answers 0, or 5 where memory ended and the
+/// record is as it was.
 fn tell_links(
     alloc: Global,
     first: &Plan<'_>,

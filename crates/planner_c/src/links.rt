@@ -6,7 +6,8 @@
 pub struct ImportAnswerRecord {
     /// From `BOBBINAZURE_GIVEN` on: 0 given, 1 missing, 2 a mismatch.
     pub answer: u32,
-    /// Where it is given, the number of the export, from 0 on; of a mismatch the rule that it breaks, from `BOBBINAZURE_MISMATCH_KIND` on; else 0.
+    /// Where it is given, the number of the export, from 0 on; of a mismatch the rule that it
+    /// breaks, from `BOBBINAZURE_MISMATCH_KIND` on; else 0.
     pub detail: u32,
     /// The text of a mismatch, else empty. It is never freed.
     pub line: &'static [u8],

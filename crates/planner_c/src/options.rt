@@ -13,10 +13,12 @@ use wasm_types::Tunables;
 #[derive(Clone, Copy)]
 pub struct PlanOptions {
     /// Whether memories begin as images, where the data segments allow it.
-    /// A module can then ask for `max_image` bytes with each memory that it defines, in some fifteen bytes of its own.
+    /// A module can then ask for `max_image` bytes with each memory that it defines, in some
+    /// fifteen bytes of its own.
     pub cow: u8,
     /// Whether tables begin as images, as far as their elements allow it.
-    /// A module can then ask for 1,048,576 cells of four bytes with each table that it defines, in ten bytes of its own.
+    /// A module can then ask for 1,048,576 cells of four bytes with each table that it defines, in
+    /// ten bytes of its own.
     pub lazy_tables: u8,
     /// Whether hints of branches are read.
     pub branch_hints: u8,

@@ -22,8 +22,8 @@ use translate::{
 };
 
 /// Plans the module that the bytes spell, and puts the plan into the record: `bobbinazure_make_plan`.
-/// Answers 0 of a plan, 1 of a refusal, 2 where the options are wrong, 5 where there is no memory. At 2 the record is as it was; at 5 it has the tables
-/// that were made.
+/// Answers 0 of a plan, 1 of a refusal, 2 where the options are wrong, 5 where there is no memory.
+/// At 2 the record is as it was; at 5 it has the tables that were made.
 #[unsafe(no_mangle)]
 pub extern "C" fn bobbinazure_make_plan<'d>(
     alloc: Global,
@@ -58,7 +58,8 @@ pub extern "C" fn bobbinazure_make_plan<'d>(
     }
 }
 
-/// Plans the module that the bytes spell, and gives the text of the plan, or the line of the refusal: `bobbinazure_make_text`.
+/// Plans the module that the bytes spell, and gives the text of the plan, or the line of the
+/// refusal: `bobbinazure_make_text`.
 /// Answers as `bobbinazure_make_plan`; the record is as it was at 2 and 5.
 #[unsafe(no_mangle)]
 pub extern "C" fn bobbinazure_make_text<'d>(
@@ -92,7 +93,8 @@ pub extern "C" fn bobbinazure_make_text<'d>(
     }
 }
 
-/// Plans the module once, and gives both the record of its plan and the text: `bobbinazure_make_plan_and_text`.
+/// Plans the module once, and gives both the record of its plan and the text:
+/// `bobbinazure_make_plan_and_text`.
 /// Answers as the other two.
 #[unsafe(no_mangle)]
 pub extern "C" fn bobbinazure_make_plan_and_text<'d>(

@@ -15,8 +15,8 @@ use translate::{Collector, Plan, TranslateError, translate_module};
 use wasm_index::StaticModuleIndex;
 use wasm_types::Tunables;
 
-/// A function type without parameters and results twice, each in a group of its own, and one that is not final. The first two are equal,
-/// so the list has two types.
+/// A function type without parameters and results twice, each in a group of its own, and one that
+/// is not final. The first two are equal, so the list has two types.
 pub(crate) const FINAL_OR_NOT: [u8; 22] = [
     0x00, 0x61, 0x73, 0x6D, 0x01, 0x00, 0x00, 0x00, // the header
     0x01, 0x0C, 0x03, 0x60, 0x00, 0x00, 0x60, 0x00, 0x00, 0x50, 0x00, 0x60, 0x00, 0x00, // types
@@ -28,7 +28,8 @@ pub(crate) const OF_ITSELF: [u8; 16] = [
     0x01, 0x06, 0x01, 0x60, 0x01, 0x64, 0x00, 0x00, // types
 ];
 
-/// A memory and two data segments. The list has the type of the startup function alone, without parameters and results.
+/// A memory and two data segments. The list has the type of the startup function alone, without
+/// parameters and results.
 pub(crate) const TWO_SEGMENTS: [u8; 30] = [
     0x00, 0x61, 0x73, 0x6D, 0x01, 0x00, 0x00, 0x00, // the header
     0x05, 0x03, 0x01, 0x00, 0x01, // memories
@@ -36,8 +37,9 @@ pub(crate) const TWO_SEGMENTS: [u8; 30] = [
     0x09, // data segments
 ];
 
-/// A group of two functions, each of the other; a function of an i32; and an exception of that type. The list has the group, the type by
-/// which both of its functions are called, the third function, and the exception.
+/// A group of two functions, each of the other; a function of an i32; and an exception of that
+/// type. The list has the group, the type by which both of its functions are called, the third
+/// function, and the exception.
 pub(crate) const GROUP_AND_EXCEPTION: [u8; 32] = [
     0x00, 0x61, 0x73, 0x6D, 0x01, 0x00, 0x00, 0x00, // the header
     0x01, 0x11, 0x02, 0x4E, 0x02, 0x60, 0x01, 0x64, 0x01, 0x00, 0x60, 0x01, 0x64, 0x00, 0x00, 0x60,

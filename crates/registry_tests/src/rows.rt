@@ -1,4 +1,5 @@
-//! Rows of registrations and releases: the key and the indices that a list gets, and how many types are live then.
+//! Rows of registrations and releases: the key and the indices that a list gets, and how many types
+//! are live then.
 
 ghost use Rattle.std.specs.Prelude.{◌≡◌, ◌<◌, length};
 ghost use Rattle.module_types.specs.Listed.{Listed};

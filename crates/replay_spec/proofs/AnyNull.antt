@@ -1,4 +1,5 @@
--- What replay sees of an expression has the values of the expression, and reads the same globals: neither looks at the heap type of a null.
+-- What replay sees of an expression has the values of the expression, and reads the same globals:
+-- neither looks at the heap type of a null.
 use Rattle.std.proofs.Common.{◌≡◌, ℕ, List, [], ◌∷◌, All, Option, refl, ap}
 use Rattle.std.specs.Option.{option_and_then}
 use Rattle.std.proofs.lemmas.List.Elements.{All-map, All-weaker}

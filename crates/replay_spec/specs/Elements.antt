@@ -1,4 +1,5 @@
--- The element phase of a module: what its active element segments leave in its tables (core specification, 4.7, instantiation).
+-- The element phase of a module: what its active element segments leave in its tables (core
+-- specification, 4.7, instantiation).
 use Rattle.std.specs.Prelude.{ℕ, ◌-◌, Bool, true, false, nat_lt, List, [], ◌++◌, length, map, slice_index, slice_get, unwrap_or, Option, None, Some, if◌then◌else◌}
 use Rattle.std.specs.List.{filter_map}
 use Rattle.wasm_spec.specs.declared.types.HeapType.{HeapType}
@@ -24,7 +25,8 @@ pub record ActiveElements : Type 0 where
   pub offset : Expression
   pub items : Items
 
--- a defined table: its minimum size in cells, whether its heap type has functions on top, and what its cells hold at first
+-- a defined table: its minimum size in cells, whether its heap type has functions on top, and what
+-- its cells hold at first
 pub record DefinedTable : Type 0 where
   pub minimum : ℕ
   pub functions : Bool
@@ -37,7 +39,8 @@ abbrev pub value_or_null : Option Value → Value
 value_or_null None = Ref Null
 value_or_null (Some v) = v
 
--- a module's element segments are written over the values of the globals and how many fields each struct type has
+-- a module's element segments are written over the values of the globals and how many fields each
+-- struct type has
 module _ (globals : List Value) (fields : ℕ → ℕ) where
   abbrev pub cell_of : Expression → Value
   cell_of e = value_or_null (eval globals fields e)
@@ -63,7 +66,8 @@ module _ (globals : List Value) (fields : ℕ → ℕ) where
 abbrev pub table_sizes : List (List Value) → List ℕ → ℕ → ℕ
 table_sizes imported defined i = slice_index (map length imported ++ defined) i
 
--- an imported table holds its contents at first; of a defined one, by its number among those, the cells are given
+-- an imported table holds its contents at first; of a defined one, by its number among those, the
+-- cells are given
 abbrev pub table_base : List (List Value) → (ℕ → ℕ → Value) → ℕ → ℕ → Value
 table_base imported defined i place =
     if nat_lt i (length imported) then value_or_null (slice_get (unwrap_or (slice_get imported i) []) place) else defined (i - length imported) place

@@ -1,4 +1,5 @@
--- Each initialiser, offset and item of a module has a value of its class: no phase falls back on null or on 0 (core specification, 4.2, values).
+-- Each initialiser, offset and item of a module has a value of its class: no phase falls back on
+-- null or on 0 (core specification, 4.2, values).
 use Rattle.std.specs.Prelude.{◌≡◌, ℕ, ◌+◌, List, length, take, All, IfSome, IsSomeAnd, Some, slice_get, unwrap_or}
 use Rattle.wasm_spec.specs.TypeData.{value_of}
 use Rattle.wasm_spec.specs.Module.{Expression, TableDef, GlobalDef, ElementKind, ActiveElement, ElementItems, Functions, Expressions, Element, DataKind, Passive, Active, Segment}

@@ -1,4 +1,5 @@
--- The globals phase: the first values of a module's globals, and what a plan leaves in them (core specification, 4.7, instantiation).
+-- The globals phase: the first values of a module's globals, and what a plan leaves in them (core
+-- specification, 4.7, instantiation).
 use Rattle.std.specs.Prelude.{◌≡◌, ℕ, ◌+◌, ◌<◌, List, [], ◌∷◌, ◌++◌, length, map, replicate, set, is_none, All, Option, None, Some, if◌then◌else◌}
 use Rattle.std.specs.List.{filter_map, enumerate_from}
 use Rattle.std.specs.Option.{option_map}
@@ -32,8 +33,8 @@ ReadEarlier n (e ∷ es) = All (ReadsBelow n) e × ReadEarlier (n + 1) es
 
 -- ---- of a plan
 
--- what a plan says of the defined globals, by their numbers among those: the values that are known before any code runs, and the
--- initialisers that are kept
+-- what a plan says of the defined globals, by their numbers among those: the values that are known
+-- before any code runs, and the initialisers that are kept
 pub record GlobalPlan : Type 0 where
   pub count : ℕ
   pub simple : List (ℕ × Value)
@@ -69,7 +70,8 @@ pub record IsGlobalPlan (initialisers : List Expression) (plan : GlobalPlan) : T
   pub simple : plan.simple ≡ filter_map simple_of (enumerate_from 0 initialisers)
   pub kept : plan.kept ≡ filter_map kept_of (enumerate_from 0 initialisers)
 
--- over any struct types and any values of a given number of imported globals, the plan gives each global the value that the module gives it
+-- over any struct types and any values of a given number of imported globals, the plan gives each
+-- global the value that the module gives it
 abbrev pub AgreesOnGlobals : ℕ → List Expression → GlobalPlan → Type 0
 AgreesOnGlobals imports initialisers plan = (fields : ℕ → ℕ) (imported : List Value) → length imported ≡ imports
     → planned_globals fields imported plan ≡ values_after fields imported initialisers

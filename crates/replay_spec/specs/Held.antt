@@ -1,5 +1,6 @@
--- What a plan holds of the expressions of a module: each with `any` for the heap type of a null reference, since a plan names interned types
--- where the module names declared ones. All nulls are one value, so that nothing is lost.
+-- What a plan holds of the expressions of a module: each with `any` for the heap type of a null
+-- reference, since a plan names interned types where the module names declared ones. All nulls are
+-- one value, so that nothing is lost.
 use Rattle.std.specs.Prelude.{List, map}
 use Rattle.std.specs.Option.{option_map}
 use Rattle.wasm_spec.specs.declared.types.HeapType.TheVariants.{Abstract}

@@ -1,5 +1,5 @@
--- When the active data segments of a module become images of its memories, and which images these are (core specification, 4.7,
--- instantiation, says what the segments leave).
+-- When the active data segments of a module become images of its memories, and which images these
+-- are (core specification, 4.7, instantiation, says what the segments leave).
 use Rattle.std.specs.Prelude.{◌≡◌, ◌≢◌, ℕ, ◌+◌, ◌-◌, ◌*◌, ◌/◌, ◌%◌, ◌^◌, ◌<◌, ◌≤◌, ◌⊎◌, ◌==◌, ◌&&◌, Bool, true, false, IsTrue, nat_lt, List, [], ◌∷◌, ◌++◌, length, map, sum_by, min, max, slice_index, slice_get, All, Option, None, Some}
 use Rattle.std.specs.List.{filter}
 use Rattle.wasm_spec.specs.declared.entities.MemoryType.{MemoryType}
@@ -15,7 +15,8 @@ pub record ImageOptions : Type 0 where
   pub page : ℕ
   pub max_image : ℕ
 
--- a defined memory: whether its indices have 64 bits, its minimum size in pages, and its page size as an exponent of 2
+-- a defined memory: whether its indices have 64 bits, its minimum size in pages, and its page size
+-- as an exponent of 2
 pub record ImageMemory : Type 0 where
   pub wide : Bool
   pub pages : ℕ
@@ -40,8 +41,8 @@ abbrev pub index_of_constant : Bool → Option Value → Option ℕ
 index_of_constant wide None = None
 index_of_constant wide (Some v) = index_of wide v
 
--- a segment is on a defined memory, its offset is a constant of the memory's index type, and it ends within the memory's minimum size,
--- which is a number of 64 bits
+-- a segment is on a defined memory, its offset is a constant of the memory's index type, and it
+-- ends within the memory's minimum size, which is a number of 64 bits
 pub record IsPlaced (imports : ℕ) (memories : List ImageMemory) (s : ActiveSegment) : Type 0 where
   pub memory : ImageMemory
   pub place : ℕ
@@ -113,8 +114,8 @@ pub record IsLast (contents : ℕ → ℕ) (place : ℕ) : Type 0 where
   pub nonzero : contents place ≢ 0
   pub behind : (q : ℕ) → place < q → contents q ≡ 0
 
--- an image spans from the page that holds the first byte that is not zero to the end of the page that holds the last, and has the
--- contents there
+-- an image spans from the page that holds the first byte that is not zero to the end of the page
+-- that holds the last, and has the contents there
 pub record IsImage (page : ℕ) (contents : ℕ → ℕ) (image : MemoryImage) : Type 0 where
   pub first : ℕ
   pub last : ℕ
@@ -155,7 +156,8 @@ image_bytes [] = []
 image_bytes (None ∷ images) = image_bytes images
 image_bytes (Some image ∷ images) = image.bytes ∷ image_bytes images
 
--- the rule holds, and the plan has the images alone: in its map, in its processed list, and first of its runtime data
+-- the rule holds, and the plan has the images alone: in its map, in its processed list, and first
+-- of its runtime data
 pub record PlansImages (options : ImageOptions) (imports : ℕ) (memories : List ImageMemory) (active : List ActiveSegment)
     (passive : List (List ℕ)) (plan : MemoryPlan) : Type 0 where
   pub static : IsStatic options imports memories active
@@ -185,8 +187,9 @@ pub record IsMemoryPlan (options : ImageOptions) (imports : ℕ) (memories : Lis
 abbrev pub IsWithin : (ℕ → ℕ) → ℕ → ℕ → Type 0
 IsWithin contents low high = (place : ℕ) → contents place ≢ 0 → (low ≤ place) × (place < high)
 
--- an image of these segments on a memory is whole pages within it, has the contents, lies in any run of whole pages that holds every byte
--- that is not zero, and is at most two pages longer than twice the bytes, or than what is always made
+-- an image of these segments on a memory is whole pages within it, has the contents, lies in any
+-- run of whole pages that holds every byte that is not zero, and is at most two pages longer than
+-- twice the bytes, or than what is always made
 pub record IsTight (options : ImageOptions) (memory : ImageMemory) (contents : ℕ → ℕ) (ss : List ActiveSegment) (image : MemoryImage) : Type 0 where
   pub whole_start : image.start % options.page ≡ 0
   pub whole_pages : length image.bytes % options.page ≡ 0

@@ -1,4 +1,5 @@
--- When the startup function of a module runs: it does what instantiation leaves to be done (core specification, 4.7, instantiation).
+-- When the startup function of a module runs: it does what instantiation leaves to be done (core
+-- specification, 4.7, instantiation).
 use Rattle.std.specs.Prelude.{◌&&◌, Bool, true, false, is_none, List, [], ◌∷◌, map, if◌then◌else◌}
 use Rattle.std.specs.List.{filter, filter_map, list_all}
 use Rattle.wasm_spec.specs.Module.{Expression, GlobalDef, ElementKind, PassiveElement, Element}

@@ -1,4 +1,5 @@
--- Which active element segments become images of tables, which images these are, and what a plan leaves in tables.
+-- Which active element segments become images of tables, which images these are, and what a plan
+-- leaves in tables.
 use Rattle.std.specs.Prelude.{◌≡◌, ℕ, ◌+◌, ◌-◌, ◌<◌, ◌≤◌, ◌==◌, nat_le, ◌&&◌, Bool, IsTrue, List, [], ◌∷◌, ◌++◌, length, map, max, slice_get, All, Option, None, Some, IsSome, is_some, unwrap_or, if◌then◌else◌}
 use Rattle.std.specs.Option.{option_and_then}
 use Rattle.wasm_spec.specs.declared.operators.Operator.{Operator}
@@ -68,8 +69,9 @@ is_imaged_from_start lazy t = lazy && is_some (initial_function t.initial) && na
 abbrev pub kept_initial : Bool → DefinedTable → Option Expression
 kept_initial lazy t = if is_imaged_from_start lazy t then None else t.initial
 
--- a segment may be taken: it is on a defined table of functions that keeps no initialiser, its offset is a constant, its items are cells,
--- and it ends within the table and within the largest image
+-- a segment may be taken: it is on a defined table of functions that keeps no initialiser, its
+-- offset is a constant, its items are cells, and it ends within the table and within the largest
+-- image
 pub record MayBeTaken (lazy : Bool) (imports : ℕ) (tables : List DefinedTable) (s : ActiveElements) : Type 0 where
   pub lazy_tables : IsTrue lazy
   pub table : DefinedTable
@@ -94,7 +96,8 @@ abbrev pub end_on : ℕ → List ActiveElements → ℕ
 end_on table [] = 0
 end_on table (s ∷ ss) = if s.table == table then max (elements_end s) (end_on table ss) else end_on table ss
 
--- the length of an image: the whole of a table that is imaged from the start, or up to the greatest end of the taken segments on it
+-- the length of an image: the whole of a table that is imaged from the start, or up to the greatest
+-- end of the taken segments on it
 abbrev pub image_length : Bool → List ActiveElements → ℕ → DefinedTable → ℕ
 image_length lazy taken table t = if is_imaged_from_start lazy t then t.minimum else end_on table taken
 
@@ -106,7 +109,8 @@ pub record IsTableImage (lazy : Bool) (taken : List ActiveElements) (table : ℕ
 
 -- ---- a plan
 
--- what the cells of a table hold at first: the value of the initialiser that it keeps, or else its image, and null past the image's end
+-- what the cells of a table hold at first: the value of the initialiser that it keeps, or else its
+-- image, and null past the image's end
 pub record PlannedTable : Type 0 where
   pub minimum : ℕ
   pub initial : Option Expression
@@ -148,8 +152,8 @@ module _ (globals : List Value) (fields : ℕ → ℕ) where
     pieces = map (elements_piece globals fields) plan.segments;
   }
 
--- over any values of globals, any struct types, and any contents of a given number of imported tables, the plan leaves what the segments leave,
--- and traps where they trap
+-- over any values of globals, any struct types, and any contents of a given number of imported
+-- tables, the plan leaves what the segments leave, and traps where they trap
 abbrev pub AgreesOnTables : ℕ → List DefinedTable → List ActiveElements → TablePlan → Type 0
 AgreesOnTables imports tables active plan = (globals : List Value) (fields : ℕ → ℕ) (imported : List (List Value)) → length imported ≡ imports
     → SamePhase (elements_phase globals fields imported tables active) (planned_elements_phase globals fields imported plan)

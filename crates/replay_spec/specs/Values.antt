@@ -1,4 +1,5 @@
--- The values of constant expressions: a machine with a stack (core specification, 4.2, runtime structure, and 4.6, instructions).
+-- The values of constant expressions: a machine with a stack (core specification, 4.2, runtime
+-- structure, and 4.6, instructions).
 use Rattle.std.specs.Prelude.{ℕ, ◌+◌, ◌-◌, ◌*◌, ◌%◌, ◌^◌, Bool, true, false, List, [], ◌∷◌, ◌++◌, length, take, drop, nat_le, slice_get, Option, None, Some, if◌then◌else◌}
 use Rattle.std.specs.Int.{cast_unsigned, w32, w64}
 use Rattle.std.specs.Option.{option_map, option_and_then}
@@ -9,7 +10,8 @@ use Rattle.wasm_spec.specs.Module.{Expression}
 -- ---- values
 
 mutual
-  -- numbers are unsigned: from 0 to 2 ^ 32 - 1, or to 2 ^ 64 - 1; floats and vectors are their bits; references are terms
+  -- numbers are unsigned: from 0 to 2 ^ 32 - 1, or to 2 ^ 64 - 1; floats and vectors are their
+  -- bits; references are terms
   pub data Value : Type 0 where
     I32 : (number : ℕ) → Value
     I64 : (number : ℕ) → Value
@@ -69,7 +71,8 @@ abbrev pub i31_of : List Value → Option Value
 i31_of (I32 n ∷ []) = Some (Ref (I31 (n % 2 ^ 31)))
 i31_of _ = None
 
--- a conversion of null is null, and one of what the opposite conversion made gives back what that was made from
+-- a conversion of null is null, and one of what the opposite conversion made gives back what that
+-- was made from
 abbrev pub to_extern : Term → Term
 to_extern Null = Null
 to_extern (AsAny term) = term
@@ -165,7 +168,8 @@ within_16 stack = if nat_le (length stack) 16 then Some stack else None
 abbrev pub plain_step : Operator → List Value → Option (List Value)
 plain_step op stack = if is_plain op then option_and_then within_16 (acted (action [] (λ t. 0) op) stack) else None
 
--- the constant value of an expression: of constants, sums, differences and products alone, on a stack of at most 16 values
+-- the constant value of an expression: of constants, sums, differences and products alone, on a
+-- stack of at most 16 values
 abbrev pub const_value : Expression → Option Value
 const_value e = evaluated plain_step e
 

@@ -6,7 +6,8 @@ ghost use Rattle.rule_spec.specs.Expressions.{AreGlobalsTyped};
 ghost use Rattle.rule_spec.specs.Lists.{Lists};
 ghost use Rattle.replay_spec.specs.Globals.{GlobalPlan, ReadEarlier, IsGlobalPlan, AgreesOnGlobals, initialisers};
 
-/// The plan of globals gives each global the value that the module gives it, where each initialiser reads only globals before its own;
+/// The plan of globals gives each global the value that the module gives it, where each initialiser
+/// reads only globals before its own;
 /// in a module whose expressions are typed it does.
 pub fn global_plan_law()
     ensures agrees { (imports : ℕ) (initialisers : List Expression) (plan : GlobalPlan) → ReadEarlier imports initialisers

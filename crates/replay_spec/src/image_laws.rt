@@ -10,7 +10,8 @@ ghost use Rattle.replay_spec.specs.Held.{held_segments};
 ghost use Rattle.replay_spec.specs.Plan.{MemoryPlan, AgreesOver, Agrees};
 ghost use Rattle.replay_spec.specs.Images.{ImageOptions, ImageMemory, image_memory_of, size_of, IsStatic, MemoryImage, written_on, bytes_on, ImageOf, IsImage, AreImages, IsMemoryPlan, IsTight};
 
-/// The plan of active segments leaves what the segments leave, over any globals and any contents of imported memories, and traps where they trap;
+/// The plan of active segments leaves what the segments leave, over any globals and any contents of
+/// imported memories, and traps where they trap;
 /// where all segments become images none of them traps.
 pub fn memory_plan_laws()
     ensures agrees { (options : ImageOptions) (imports : ℕ) (memories : List ImageMemory) (active : List ActiveSegment) (passive : List (List ℕ)) (plan : MemoryPlan)
@@ -32,8 +33,9 @@ pub fn memory_image_laws()
         → AreImages page memories active xs → AreImages page memories active ys → xs ≡ ys }
 {}
 
-/// There are images of any memories, and a plan of every module. Two plans of one module have the same runtime data, so that a number of
-/// bytes is reached by those of every plan exactly where it is reached by those of some plan.
+/// There are images of any memories, and a plan of every module. Two plans of one module have the
+/// same runtime data, so that a number of bytes is reached by those of every plan exactly where it
+/// is reached by those of some plan.
 pub fn memory_plan_exists_laws()
     ensures images { (page memories : ℕ) (active : List ActiveSegment) → (images : List (Option MemoryImage)) × AreImages page memories active images }
     ensures plan { (options : ImageOptions) (imports : ℕ) (memories : List ImageMemory) (active : List ActiveSegment) (passive : List (List ℕ))

@@ -21,7 +21,8 @@ pub fn any_null_law()
     ensures constant { (e : Expression) → const_value (any_nulls e) ≡ const_value e }
 {}
 
-/// The phases over what a plan holds of segments and initialisers are those over the segments and initialisers.
+/// The phases over what a plan holds of segments and initialisers are those over the segments and
+/// initialisers.
 pub fn held_phase_laws()
     ensures globals { (fields : ℕ → ℕ) (known : List Value) (initialisers : List Expression)
         → values_after fields known (map any_nulls initialisers) ≡ values_after fields known initialisers }
@@ -42,8 +43,9 @@ pub fn typed_value_law()
         → IsSomeAnd (eval globals (field_count l) e) (λ v. IsOfClass v c) }
 {}
 
-/// The globals of a module that keeps the listed rules have values of their classes, where the imported ones have; over these each
-/// initialiser, offset and item has a value of its class, so that nothing that it leaves is null or 0 for want of a value.
+/// The globals of a module that keeps the listed rules have values of their classes, where the
+/// imported ones have; over these each initialiser, offset and item has a value of its class, so
+/// that nothing that it leaves is null or 0 for want of a value.
 pub fn module_value_laws()
     ensures globals { (m : Module) (imported : List Value) → Keeps m → (let l = lists_of_module m in AreImported l imported
         → HaveClasses (all_globals l imported) l.global_types) }

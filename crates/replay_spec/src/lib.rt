@@ -1,4 +1,5 @@
-//! What the initialisers of a module leave in its globals, memories and tables, for the contracts of the crates above.
+//! What the initialisers of a module leave in its globals, memories and tables, for the contracts
+//! of the crates above.
 //!
 //! The definitions stand in `specs/`, over plain records of numbers and lists.
 #![tactic(auto)]

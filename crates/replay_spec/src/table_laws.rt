@@ -4,8 +4,8 @@ ghost use Rattle.std.specs.Prelude.{◌≡◌, ℕ, Bool, List};
 ghost use Rattle.replay_spec.specs.Elements.{ActiveElements, DefinedTable};
 ghost use Rattle.replay_spec.specs.Tables.{TablePlan, TakesPrefix, IsTablePlan, AgreesOnTables};
 
-/// The plan of tables and active element segments leaves what the segments leave, over any values of globals and any contents of
-/// imported tables, and traps where they trap.
+/// The plan of tables and active element segments leaves what the segments leave, over any values
+/// of globals and any contents of imported tables, and traps where they trap.
 pub fn table_plan_law()
     ensures { (lazy : Bool) (imports : ℕ) (tables : List DefinedTable) (active : List ActiveElements) (plan : TablePlan)
         → IsTablePlan lazy imports tables active plan → AgreesOnTables imports tables active plan }

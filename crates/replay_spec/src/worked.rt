@@ -24,7 +24,8 @@ pub fn worked_values()
     ensures wide_product { const_value (op.I64Const (pos 4294967296) ∷ op.I64Const (pos 4294967297) ∷ op.I64Mul ∷ []) ≡ Some (I64 4294967296) }
 {}
 
-/// Which expressions have a constant value: of constants and arithmetic alone, typed, and at most 16 values deep.
+/// Which expressions have a constant value: of constants and arithmetic alone, typed, and at most
+/// 16 values deep.
 pub fn worked_constants()
     ensures float { const_value (op.F32Const 7 ∷ []) ≡ Some (F32 7) }
     ensures wide_float { const_value (op.F64Const 7 ∷ []) ≡ Some (F64 7) }

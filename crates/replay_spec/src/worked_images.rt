@@ -20,7 +20,8 @@ pub fn worked_memory_images()
     ensures map { image_map 0 (Some (image_at 16 (1 ∷ [])) ∷ None ∷ Some (image_at 0 (2 ∷ [])) ∷ []) ≡ Some (16, 0) ∷ None ∷ Some (0, 1) ∷ [] }
 {}
 
-/// Every plan of two overlapping segments, where images are wanted, has one image: from 0 on one page of 4096 bytes, with 1, 9 and 3 at 16.
+/// Every plan of two overlapping segments, where images are wanted, has one image: from 0 on one
+/// page of 4096 bytes, with 1, 9 and 3 at 16.
 pub fn worked_memory_plan()
     ensures { (most : ℕ) (plan : MemoryPlan) → IsMemoryPlan (images_below most) 0 one_memory (active_segments overlapping) [] plan
         → (plan.images ≡ Some (0, 0) ∷ []) × (plan.runtime ≡ (replicate 16 0 ++ 1 ∷ 9 ∷ 3 ∷ replicate 4077 0) ∷ []) }

@@ -33,12 +33,14 @@ kind_of_function l f = option_and_then (kind_at l) (slice_get l.functions f)
 abbrev pub CanStart : Lists → ℕ → Type 0
 CanStart l f = IsSomeAnd (kind_of_function l f) TakesAndGivesNothing
 
--- a data segment that is written when the module is instantiated names a memory that exists (3.5, data segments)
+-- a data segment that is written when the module is instantiated names a memory that exists (3.5,
+-- data segments)
 abbrev pub NamesMemory : Lists → DataKind → Type 0
 NamesMemory l Passive = Unit {0}
 NamesMemory l (Active memory offset) = memory < length l.memories
 
--- an element segment that is written names a table that exists; without an index it is table 0 (3.5, element segments)
+-- an element segment that is written names a table that exists; without an index it is table 0
+-- (3.5, element segments)
 abbrev pub NamesTable : Lists → ElementKind → Type 0
 NamesTable l (ActiveElement table offset) = unwrap_or table 0 < length l.table_types
 NamesTable l _ = Unit {0}

@@ -20,7 +20,8 @@ pub record TypesAreNamed (l : Lists) : Type 0 where
 abbrev pub locals : Body → ℕ
 locals b = sum_by (λ (run : ℕ × ValType). run.0) b.locals
 
--- as many bodies as functions, as many data segments as stated, and locals of 32 bits (5.5, code section and modules)
+-- as many bodies as functions, as many data segments as stated, and locals of 32 bits (5.5, code
+-- section and modules)
 pub record CountsAgree (l : Lists) : Type 0 where
   pub bodies : length l.functions ≡ l.imported_functions + length l.bodies
   pub data_segments : All (λ count. count ≡ length l.segments) l.data_counts

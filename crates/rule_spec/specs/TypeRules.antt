@@ -43,7 +43,8 @@ ContinuesFunction l _ = Unit {0}
 
 -- ---- declared types
 
--- indices below the end of the type's own group, a supertype at a lower index, and a continuation of a function type (3.2, recursive types)
+-- indices below the end of the type's own group, a supertype at a lower index, and a continuation
+-- of a function type (3.2, recursive types)
 pub record IsDeclaredWell (l : Lists) (d : Declared) : Type 0 where
   pub indices : KindIsBelow d.group_end d.type.composite.inner
   pub supertype : IfSome d.type.supertype (IsBelow d.index)

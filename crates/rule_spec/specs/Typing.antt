@@ -1,4 +1,5 @@
--- Coarse typing of constant expressions: of a value only its class counts (core specification, 3.4, constant expressions).
+-- Coarse typing of constant expressions: of a value only its class counts (core specification, 3.4,
+-- constant expressions).
 use Rattle.std.specs.Prelude.{◌≡◌, ℕ, Bool, true, false, ◌∷◌, [], ◌++◌, List, map, length, replicate, nat_lt, slice_get, Option, None, Some, if◌then◌else◌}
 use Rattle.std.specs.Option.{option_and_then}
 use Rattle.std.specs.List.{list_all}
@@ -87,7 +88,8 @@ where_true false s = None
 abbrev pub global_signature : GlobalType → Option Signature
 global_signature t = if t.mutable then None else gives (class_of (value_of t.content_type))
 
--- what an operator takes and pushes, where these globals are visible; none where it names nothing that it may name
+-- what an operator takes and pushes, where these globals are visible; none where it names nothing
+-- that it may name
 abbrev pub signature : Lists → List GlobalType → Operator → Option Signature
 signature l visible (op.I32Const value) = gives class.I32
 signature l visible (op.I64Const value) = gives class.I64
@@ -114,7 +116,8 @@ signature l visible op.AnyConvertExtern = refers_to (class.Ref ∷ [])
 
 -- ---- expressions
 
--- an operator leads from one stack to another: the values that it takes are the last ones, and it pushes one in their place
+-- an operator leads from one stack to another: the values that it takes are the last ones, and it
+-- pushes one in their place
 pub record Step (l : Lists) (visible : List GlobalType) (op : Operator) (before after : List Class) : Type 0 where
   pub signed : Signature
   pub rest : List Class

@@ -84,7 +84,8 @@ reference_without_type = Globals (record {
 abbrev pub array_of : Storage UnpackedIndex → Composite UnpackedIndex UnpackedIndex
 array_of element = Array (record { element = element; mutable = false })
 
--- type 0 is a structure of a packed field and an i64, type 1 an array of references that are not null, type 2 an array of f32; function 0 is of no type
+-- type 0 is a structure of a packed field and an i64, type 1 an array of references that are not
+-- null, type 2 an array of f32; function 0 is of no type
 abbrev pub three_types : Lists
 three_types = lists_of_module (
     Types (alone (Struct (record { element = I8; mutable = true } ∷ record { element = Val I64; mutable = false } ∷ []))

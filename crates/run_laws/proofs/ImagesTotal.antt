@@ -1,5 +1,5 @@
--- The images of a plan have in sum at most twice the bytes of the segments, and for each defined memory the extent that is always made and two
--- pages.
+-- The images of a plan have in sum at most twice the bytes of the segments, and for each defined
+-- memory the extent that is always made and two pages.
 use Rattle.std.proofs.Common.{◌≡◌, ◌≤◌, ◌<◌, ◌+◌, ◌-◌, ◌*◌, ◌==◌, ◌&&◌, ◌⊎◌, ℕ, zero, suc, List, [], ◌∷◌, length, Bool, true, false, cond, if◌then◌else◌, Option, Some, None, sum_by, slice_get, nat_le, nat_lt, max, refl, ap, subst, arith}
 use Rattle.std.specs.List.{filter}
 use Rattle.std.proofs.Math.Logic.{⊎_elim}

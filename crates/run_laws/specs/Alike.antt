@@ -21,7 +21,8 @@ module _ (plan : Plan) where
   abbrev pub globals_by : List Value → List Value
   globals_by imported = planned_globals fields_by imported (plan_of_globals plan.translation)
 
-  -- its data phase, over values of the imported globals and contents of the imported memories: by its map, or by its list
+  -- its data phase, over values of the imported globals and contents of the imported memories: by
+  -- its map, or by its list
   abbrev pub data_by : Way → List Value → List (List ℕ) → Phase ℕ
   data_by way imported contents = plan_phase way (offset_over (globals_by imported) fields_by) contents (memory_plan_of plan.translation)
 
@@ -29,7 +30,8 @@ module _ (plan : Plan) where
   abbrev pub elements_by : List Value → List (List Value) → Phase Value
   elements_by imported contents = planned_elements_phase (globals_by imported) fields_by contents (plan_of_tables plan.translation)
 
--- Over any imports both give the same globals, leave the same bytes and cells, and trap at the same segments, whichever way each is read.
+-- Over any imports both give the same globals, leave the same bytes and cells, and trap at the same
+-- segments, whichever way each is read.
 pub record BeginAlike (one other : Plan) : Type 0 where
   pub globals : (imported : List Value) → length imported ≡ one.translation.module.num_imported_globals
       → globals_by one imported ≡ globals_by other imported

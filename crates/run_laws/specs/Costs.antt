@@ -6,14 +6,15 @@ use Rattle.init_plan.specs.Views.{memory_plan_of}
 use Rattle.init_plan.specs.Tables.{plan_of_tables}
 use Rattle.translate.specs.Options.{InitOptions}
 
--- how many entries these lists of a translation have in sum: the index spaces, exports, element segments that are kept or passive, and bodies
+-- how many entries these lists of a translation have in sum: the index spaces, exports, element
+-- segments that are kept or passive, and bodies
 abbrev pub entries_of : ModuleTranslation → ℕ
 entries_of t =
     length t.module.functions + length t.module.tables + length t.module.memories + length t.module.globals + length t.module.tags
     + length t.module.exports.entries + length t.table_initialization.segments.items + length t.passive_elements + length t.function_body_inputs
 
--- the most bytes that images, kept segments and passive segments have together: twice the module's, and for each defined memory the extent that
--- is always made and two pages
+-- the most bytes that images, kept segments and passive segments have together: twice the module's,
+-- and for each defined memory the extent that is always made and two pages
 abbrev pub most_data : InitOptions → ℕ → ℕ → ℕ
 most_data i bytes memories = 2 * bytes + memories * (i.max_image + 2 * i.page_size)
 

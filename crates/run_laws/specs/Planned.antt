@@ -1,4 +1,5 @@
--- What the calls that plan a translation promise, as far as it is to be laid. The fields are clauses of these calls.
+-- What the calls that plan a translation promise, as far as it is to be laid. The fields are
+-- clauses of these calls.
 use Rattle.std.specs.Prelude.{◌≡◌, Bool, length}
 use Rattle.module_types.specs.Builder.{BuilderState, builder_view}
 use Rattle.replay_spec.specs.Images.{ImageOptions, IsMemoryPlan}

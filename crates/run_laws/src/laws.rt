@@ -30,8 +30,8 @@ ghost use Rattle.run_laws.specs.Planned.{MemoriesArePlanned, TablesArePlanned, G
 use init_plan::held_agreement_laws;
 use plan_run::agreement_law;
 
-/// What is planned can be laid: what `translate` answers, once both finalize calls have succeeded on it, and the translation of each plan that
-/// `translate_module` answers.
+/// What is planned can be laid: what `translate` answers, once both finalize calls have succeeded
+/// on it, and the translation of each plan that `translate_module` answers.
 pub fn translated_is_finished()
     ensures translated { (tunables : Tunables) (index : Index StaticModuleSpace) (validator : ℕ) (bytes : List ℕ) (types : BuilderState)
         (options : ImageOptions) (lazy : Bool) (old mid new : ModuleTranslation) → IsTranslated tunables index validator bytes old types
@@ -42,8 +42,9 @@ pub fn translated_is_finished()
     held_agreement_laws();
 }
 
-/// Struct types have as many fields as in the module, where the types of a translation are the indices of the declared ones, and the list is
-/// the interned list of the module. So they have in what `translate` answers, with the list that `finish` gives once both finalize calls have
+/// Struct types have as many fields as in the module, where the types of a translation are the
+/// indices of the declared ones, and the list is the interned list of the module. So they have in
+/// what `translate` answers, with the list that `finish` gives once both finalize calls have
 /// succeeded on it, and in each plan that `translate_module` answers.
 pub fn fields_law()
     ensures listed { (m : Module) (t : ModuleTranslation) (types : TypeList) (startup : Bool) → Keeps m → t.module.types ≡ map type_index (declared m)
@@ -55,7 +56,8 @@ pub fn fields_law()
     ensures planned { (o : Options) (bytes : List ℕ) (plan : Plan) (is : IsPlanned o bytes plan) → HasFieldsOf is.meaning plan.translation plan.types }
 {}
 
-/// What is laid of a plan that `translate_module` answers is what the initialisers of the module give that the bytes spell.
+/// What is laid of a plan that `translate_module` answers is what the initialisers of the module
+/// give that the bytes spell.
 pub fn laid_law()
     ensures { (o : Options) (bytes : List ℕ) (plan : Plan) (is : IsPlanned o bytes plan) (w : Way) (imports : Imports) (laid : Laid)
         → AreImportsOf plan.translation imports → GlobalsAreLaid plan.translation plan.types imports laid
@@ -66,14 +68,15 @@ pub fn laid_law()
     agreement_law();
 }
 
-/// Options never matter to what a plan gives. Two plans of the same bytes, whatever each was planned with, begin alike over any imports. Each
-/// may be read by its map or by its list.
+/// Options never matter to what a plan gives. Two plans of the same bytes, whatever each was
+/// planned with, begin alike over any imports. Each may be read by its map or by its list.
 pub fn options_law()
     ensures { (o p : Options) (bytes : List ℕ) (one other : Plan) → IsPlanned o bytes one → IsPlanned p bytes other → BeginAlike one other }
 {}
 
-/// What a plan can cost, by the bytes of the module and the options alone: each entry has a byte of the module; images and segments have at most
-/// twice the module's bytes, and for each defined memory `max_image` and two pages; an image of a table has at most 1,048,576 cells.
+/// What a plan can cost, by the bytes of the module and the options alone: each entry has a byte of
+/// the module; images and segments have at most twice the module's bytes, and for each defined
+/// memory `max_image` and two pages; an image of a table has at most 1,048,576 cells.
 pub fn costs_law()
     ensures { (o : Options) (bytes : List ℕ) (plan : Plan) → IsPlanned o bytes plan → CostsAtMost o.init bytes plan.translation }
 {}

@@ -1,4 +1,5 @@
-//! The images of a module's tables, by the definitions of `replay_spec`: which element segments become images, and their cells.
+//! The images of a module's tables, by the definitions of `replay_spec`: which element segments
+//! become images, and their cells.
 #![tactic(auto)]
 
 mod cells;

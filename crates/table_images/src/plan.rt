@@ -71,9 +71,10 @@ fn plan_images(
     Ok(())
 }
 
-/// Plans the tables of a module, of which the first `imported` are imported. Gives the image of each defined table: of the function
-/// that it holds from the start, and of the longest beginning of the element segments that may be taken. The initialisers of tables
-/// that are imaged from the start and the taken segments are dropped; the others are left, in order.
+/// Plans the tables of a module, of which the first `imported` are imported. Gives the image of
+/// each defined table: of the function that it holds from the start, and of the longest beginning
+/// of the element segments that may be taken. The initialisers of tables that are imaged from the
+/// start and the taken segments are dropped; the others are left, in order.
 ///
 /// # Errors
 /// `OutOfMemory`; the initialisation may then only be dropped.

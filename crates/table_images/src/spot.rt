@@ -17,7 +17,8 @@ use wasm_types::{Table, WasmHeapTopType};
 /// The largest image, in cells.
 pub(crate) const MOST_CELLS: u64 = 1048576;
 
-/// Where a segment is laid into an image: the table, by its number among the defined ones, and the place of the first cell.
+/// Where a segment is laid into an image: the table, by its number among the defined ones, and the
+/// place of the first cell.
 #[derive(Clone, Copy)]
 pub(crate) struct Spot {
     pub(crate) table: usize,

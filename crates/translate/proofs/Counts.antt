@@ -1,4 +1,5 @@
--- The counts of a planned translation are those of the module, and its spaces hold what is imported into them.
+-- The counts of a planned translation are those of the module, and its spaces hold what is imported
+-- into them.
 use Rattle.std.proofs.Common.{◌≡◌, ◌≤◌, ◌+◌, ◌-◌, ℕ, false, not, cond, List, [], ◌∷◌, ◌++◌, length, length-append, map, drop, refl, sym, ap, ◌∙◌, arith}
 use Rattle.std.specs.Prelude.{count_by}
 use Rattle.std.specs.List.{enumerate_from, flat_map}

@@ -1,4 +1,5 @@
--- There is one plan of memories and one of tables, but for where passive segments are found and for cells of images.
+-- There is one plan of memories and one of tables, but for where passive segments are found and for
+-- cells of images.
 use Rattle.std.proofs.Common.{◌≡◌, ◌∙◌, ℕ, Bool, List, [], ◌∷◌, map, refl, sym, ap, inl, inr}
 use Rattle.std.specs.Prelude.{◌⊎◌, ◌&&◌, Option, is_none, if◌then◌else◌}
 use Rattle.std.specs.List.{cons_option, filter_map, list_all}

@@ -1,4 +1,5 @@
--- An initialised translation, its types, their layouts and the layout of the context are the plan of the module.
+-- An initialised translation, its types, their layouts and the layout of the context are the plan
+-- of the module.
 use Rattle.std.proofs.Common.{◌≡◌, ◌∙◌, ◌<◌, ◌≤◌, ℕ, List, length, get_or, slice_index_or, All, Any, inl, inr, sym, ap, arith}
 use Rattle.std.specs.Prelude.{◌⊎◌, ◌↔◌}
 use Rattle.std.proofs.lemmas.List.{length-map, get_or-map}
@@ -67,7 +68,8 @@ module _ (o : Options) {bytes : List ℕ} {t : ModuleTranslation} {b : BuilderSt
   long : length l.types ≡ length (interned_list m (runs (startup_by m memories tables))).types
   long = sym (length-map l.types interned_of) ∙ ap length same-lists.types
 
-  -- where the objects of the list are small, those of the interned types are: types that are the same data have objects of one size
+  -- where the objects of the list are small, those of the interned types are: types that are the
+  -- same data have objects of one size
   objects-small : All (λ u. fixed_size (gc_layout_of (header_size o.collector) u.composite_type.inner) ≤ 4294967295) l.types
       → (u : WasmSubType) → IsInterned o m memories tables u → object_size o u ≤ 4294967295
   objects-small small u is =

@@ -1,4 +1,5 @@
--- The plans of one module have one context and one list of interned types, so input whose sizes fit does not overflow.
+-- The plans of one module have one context and one list of interned types, so input whose sizes fit
+-- does not overflow.
 use Rattle.std.proofs.Common.{◌≡◌, ℕ, ◌<◌, List, length, inl, inr, ap, subst, arith}
 use Rattle.std.specs.Prelude.{◌⊎◌, Contains}
 use Rattle.wasm_spec.specs.Module.{Module}

@@ -55,7 +55,8 @@ module _ (o : Options) (m : Module) (memory_plan : MemoryPlan) (table_plan : Tab
     pub objects : (t : WasmSubType) → IsInterned t → object_size o t ≤ 4294967295
     pub context : size_of_context ≤ 4294967295
 
--- with some plans of its memories and tables, of which all give the same sizes, an object or the context is too large
+-- with some plans of its memories and tables, of which all give the same sizes, an object or the
+-- context is too large
 pub record Overflows (o : Options) (m : Module) : Type 0 where
   pub memories : MemoryPlan
   pub tables : TablePlan
@@ -63,7 +64,8 @@ pub record Overflows (o : Options) (m : Module) : Type 0 where
   pub table_plan : PlansTables o.init m tables
   pub large : HasLargeObject o m memories tables ⊎ (4294967295 < size_of_context o m memories tables)
 
--- with some plans of its memories and tables, of which all give the same sizes, its runtime data pass no 32 bits, and neither do the sizes
+-- with some plans of its memories and tables, of which all give the same sizes, its runtime data
+-- pass no 32 bits, and neither do the sizes
 pub record Fits (o : Options) (m : Module) : Type 0 where
   pub memories : MemoryPlan
   pub tables : TablePlan

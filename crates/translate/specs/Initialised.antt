@@ -52,7 +52,8 @@ OnlyInitChanges old new = new ≡ record old {
   data_align = new.data_align;
 }
 
--- in all else it is the translation of the module; what is kept of how its tables begin is the very value that the translation has
+-- in all else it is the translation of the module; what is kept of how its tables begin is the very
+-- value that the translation has
 pub record TranslatesRest (i : InitOptions) (bytes : List ℕ) (m : Module) (t : ModuleTranslation) : Type 0 where
   pub before : ModuleTranslation
   pub translation : IsTranslation i.tunables (index_of 0) 0 bytes m before
@@ -84,16 +85,18 @@ pub record InitialisesMemories (i : InitOptions) (m : Module) (t : ModuleTransla
 -- the translation of the module, planned
 pub record IsInitialised (i : InitOptions) (bytes : List ℕ) (m : Module) (t : ModuleTranslation) : Type 0 where
   pub rest : TranslatesRest i bytes m t
-  -- replayed over any imports it gives the globals, table cells, memory bytes and traps of the module's initialisers
+  -- replayed over any imports it gives the globals, table cells, memory bytes and traps of the
+  -- module's initialisers
   pub agrees : AgreesInAll m (plan_of_globals t) (memory_plan_of t) (plan_of_tables t)
   pub memories : InitialisesMemories i m t
-  -- images of tables take the longest prefix of element segments that they may, and the others are kept, in order
+  -- images of tables take the longest prefix of element segments that they may, and the others are
+  -- kept, in order
   pub tables : PlansTables i m (plan_of_tables t)
   -- startup runs exactly when something is left to be done; its type comes last
   pub startup : t.module.startup ≡ startup_with (startup_by m (memory_plan_of t) (plan_of_tables t)) (type_index (length (interned_list m false).types))
 
--- the bytes spell a module that keeps the listed rules; this is its translation, planned, and the builder holds its types, with a startup
--- type exactly where startup may run
+-- the bytes spell a module that keeps the listed rules; this is its translation, planned, and the
+-- builder holds its types, with a startup type exactly where startup may run
 pub record Initialises (i : InitOptions) (bytes : List ℕ) (t : ModuleTranslation) (b : BuilderState) : Type 0 where
   pub meaning : Module
   pub read : IsReadable bytes meaning

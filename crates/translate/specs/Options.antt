@@ -14,7 +14,8 @@ use Rattle.command_words.specs.declared.command.Collector.{Collector}
 use Rattle.command_words.specs.declared.command.Collector.TheVariants.{Drc, Null}
 use Rattle.command_words.specs.declared.command.Command.{Command}
 
--- what images are planned with: the switches, the page size of images, and an extent below which one is always made
+-- what images are planned with: the switches, the page size of images, and an extent below which
+-- one is always made
 pub record InitOptions : Type 0 where
   pub tunables : Tunables
   pub page_size : ℕ

@@ -46,7 +46,8 @@ text_for (Some n) bytes plan = summary_of n (length bytes) plan
 
 -- ---- statuses
 
--- the refusal is not that memory ran out, and has its cause in the bytes, which are not valid; of 2 ^ 30 bytes it is that they are too many
+-- the refusal is not that memory ran out, and has its cause in the bytes, which are not valid; of
+-- 2 ^ 30 bytes it is that they are too many
 pub record IsRefused (o : Options) (bytes : List ℕ) (refusal : TranslateError) : Type 0 where
   pub not_memory : refusal ≢ OutOfMemory
   pub cause : HasCause o bytes refusal

@@ -7,7 +7,8 @@ use Rattle.replay_spec.specs.Plan.{MemoryPlan}
 use Rattle.translate.specs.Options.{InitOptions, Options, PlansMemories}
 use Rattle.translate.specs.Contexts.{Fits}
 
--- the bytes spell a module that keeps the listed rules, and its runtime data, its objects and its context have sizes of 32 bits
+-- the bytes spell a module that keeps the listed rules, and its runtime data, its objects and its
+-- context have sizes of 32 bits
 pub record IsValid (o : Options) (bytes : List ℕ) : Type 0 where
   pub meaning : Module
   pub read : IsReadable bytes meaning

@@ -20,7 +20,8 @@ use plan::{Plan, TranslateError};
 use plan_text::{plan_text, refusal_line, summary_text};
 use std::alloc::Global;
 
-/// The plan of the bytes, or their refusal, with its text written. The bytes are the whole input of the command, or 2^30 bytes of it.
+/// The plan of the bytes, or their refusal, with its text written. The bytes are the whole input of
+/// the command, or 2^30 bytes of it.
 pub(crate) fn answer<'d, K: Sink>(
     alloc: Global,
     command: &Command,

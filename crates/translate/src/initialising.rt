@@ -19,8 +19,9 @@ use std::alloc::Global;
 use wasm_index::StaticModuleIndex;
 use wasm_types::Tunables;
 
-/// The translation of the module that the bytes spell, with images of its memories and tables, and with what is left to be written at the
-/// start. The builder, which holds no type yet, gets its types.
+/// The translation of the module that the bytes spell, with images of its memories and tables, and
+/// with what is left to be written at the start. The builder, which holds no type yet, gets its
+/// types.
 ///
 /// # Errors
 /// Those of the whole call, but for sizes of objects and of the context.

@@ -13,8 +13,9 @@ ghost use Rattle.plan.specs.declared.error.TranslateError.{TranslateError};
 use plan::TranslateError;
 use replay_spec::{memory_plan_exists_laws, table_plan_exists_law};
 
-/// Each module has a plan of its memories and one of its tables, and all its plans give the same sizes: the same runtime data, and the same
-/// context and startup. So whether a module has much data, fits or overflows depends on the module and the options alone.
+/// Each module has a plan of its memories and one of its tables, and all its plans give the same
+/// sizes: the same runtime data, and the same context and startup. So whether a module has much
+/// data, fits or overflows depends on the module and the options alone.
 pub fn sizes_law()
     ensures memories { (i : InitOptions) (m : Module) → (plan : MemoryPlan) × PlansMemories i m plan }
     ensures tables { (i : InitOptions) (m : Module) → (plan : TablePlan) × PlansTables i m plan }

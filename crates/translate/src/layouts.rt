@@ -12,7 +12,8 @@ use plan::TranslateError;
 use std::alloc::Global;
 use wasm_index::ModuleInternedTypeIndex;
 
-/// The layout of the objects of each interned type, in index order, for a collector. Function types and continuation types have none.
+/// The layout of the objects of each interned type, in index order, for a collector. Function types
+/// and continuation types have none.
 ///
 /// # Errors
 /// `OffsetOverflow` where the size of an object passes 4294967295 bytes, and `OutOfMemory`.

@@ -41,8 +41,9 @@ impl Report<'_> {
     }
 }
 
-/// Reads a module from the source, or makes one, plans it, and writes the text of the plan, the summary of a module that was made, or the
-/// line of the refusal, to the sink. The words are those after the program's name. The bytes stand in the store, which is empty at first.
+/// Reads a module from the source, or makes one, plans it, and writes the text of the plan, the
+/// summary of a module that was made, or the line of the refusal, to the sink. The words are those
+/// after the program's name. The bytes stand in the store, which is empty at first.
 pub fn run<'d, S: Source, K: Sink>(
     alloc: Global,
     words: &[String],
@@ -54,7 +55,8 @@ pub fn run<'d, S: Source, K: Sink>(
 
     ensures statuses { result.status ≤ 5 }
 
-    // When it reports success, the bytes spell a module that keeps the rules, the plan is its plan, and the text is written.
+    // When it reports success, the bytes spell a module that keeps the rules, the plan is its plan,
+    // and the text is written.
     ensures success { result.status ≡ 0 → Commands (map string_bytes words.now)
         (IsSuccess result.bytes.now (S.left source.new) result.plan result.refusal (K.held sink.old) (K.held sink.new)) }
 
@@ -62,7 +64,8 @@ pub fn run<'d, S: Source, K: Sink>(
     ensures refused { result.status ≡ 1 → Commands (map string_bytes words.now)
         (IsRefusal result.bytes.now (S.left source.new) result.plan result.refusal (K.held sink.old) (K.held sink.new)) }
 
-    // No byte is lost: those that were read and those that are left are those at entry. Nothing is read where a module is made.
+    // No byte is lost: those that were read and those that are left are those at entry. Nothing is
+    // read where a module is made.
     ensures bytes { (command : Command) → Names (map string_bytes words.now) command → IsNone command.generate
         → TellsFront (S.left source.old) result.bytes.now (S.left source.new) }
     ensures made { (command : Command) → Names (map string_bytes words.now) command → IsSome command.generate → source.new ≡ source.old }
@@ -102,7 +105,8 @@ pub fn run<'d, S: Source, K: Sink>(
         → ¬ Rose (S.faults source.old) (S.faults source.new) → ¬ Rose (K.faults sink.old) (K.faults sink.new)
         → (result.status ≡ 0) ⊎ (result.status ≡ 5) }
 
-    // Where the bytes that were read, or made, are valid, no refusal is kept, at any status, whether the source tells its bytes or not.
+    // Where the bytes that were read, or made, are valid, no refusal is kept, at any status,
+    // whether the source tells its bytes or not.
     ensures never_refused { (command : Command) → Names (map string_bytes words.now) command → IsValid (options_of command) result.bytes.now
         → IsNone result.refusal }
 {
@@ -118,7 +122,8 @@ pub fn run<'d, S: Source, K: Sink>(
     }
 }
 
-/// Puts the input of the command into the store, which is empty: the bytes of the source, up to 2^30 of them, or the module that is made.
+/// Puts the input of the command into the store, which is empty: the bytes of the source, up to
+/// 2^30 of them, or the module that is made.
 fn fill_store<S: Source>(
     alloc: Global,
     command: &Command,

@@ -17,12 +17,14 @@ use std::alloc::Global;
 use vm_offsets::VMOffsets;
 use wasm_types::Tunables;
 
-/// The plan of the module that the bytes spell, with these options: the switches, how objects are collected, the size of a pointer of the
-/// target, the page size of images and the size from which on an image must be half full of data.
+/// The plan of the module that the bytes spell, with these options: the switches, how objects are
+/// collected, the size of a pointer of the target, the page size of images and the size from which
+/// on an image must be half full of data.
 ///
 /// # Errors
-/// `Malformed`, `Unsupported` and `TooLarge` by what the bytes spell and by their length, `Invalid` where the module breaks a listed rule,
-/// `TooLarge` also where the runtime data pass 4294967295 bytes, `OffsetOverflow` where an object or the context does; `OutOfMemory`.
+/// `Malformed`, `Unsupported` and `TooLarge` by what the bytes spell and by their length, `Invalid`
+/// where the module breaks a listed rule, `TooLarge` also where the runtime data pass 4294967295
+/// bytes, `OffsetOverflow` where an object or the context does; `OutOfMemory`.
 pub fn translate_module<'d>(
     alloc: Global,
     tunables: &Tunables,

@@ -1,7 +1,8 @@
 -- A reader as a source and a writer as a sink.
 use Rattle.std.specs.Prelude.{ℕ, List, Option}
 
--- the reader, what it tells, how many reads failed, and how many were made since the first that moved no byte, if one did
+-- the reader, what it tells, how many reads failed, and how many were made since the first that
+-- moved no byte, if one did
 pub record Reading (R : Type 0) : Type 0 where
   pub reader : R
   pub told : Option (List ℕ)

@@ -1,4 +1,5 @@
--- What the program's status says of the command that its words name, of what its reader gives, and of what its writer gains.
+-- What the program's status says of the command that its words name, of what its reader gives, and
+-- of what its writer gains.
 use Rattle.std.specs.Prelude.{◌≡◌, ◌⊎◌, ◌^◌, ⊤, ℕ, List, take, Option, None, Some, option_map}
 use Rattle.devices.specs.Device.{AppendsFront, AppendsPart}
 use Rattle.module_generator.specs.Generated.{generated_module}
@@ -10,7 +11,8 @@ use Rattle.translate.specs.Options.{options_of}
 use Rattle.translate.specs.Planned.{IsPlanned}
 use Rattle.translate.specs.Runs.{IsRefused, text_for}
 
--- the input of a command: all that the reader tells, or any bytes where it tells nothing; or the module that is made in place of reading
+-- the input of a command: all that the reader tells, or any bytes where it tells nothing; or the
+-- module that is made in place of reading
 abbrev pub IsGiven : Option ℕ → Option (List ℕ) → List ℕ → Type 0
 IsGiven None (Some told) bytes = bytes ≡ told
 IsGiven None None bytes = ⊤

@@ -6,7 +6,8 @@ abbrev pub Tells : Bool → Option (List ℕ) → Type 0
 Tells true told = IsSome told
 Tells false told = ⊤
 
--- what is told by one that is said to tell its bytes; any other counts as one that tells nothing, though it may begin to
+-- what is told by one that is said to tell its bytes; any other counts as one that tells nothing,
+-- though it may begin to
 abbrev pub told_if : Bool → Option (List ℕ) → Option (List ℕ)
 told_if true told = told
 told_if false told = None

@@ -32,7 +32,8 @@ impl Telling for Untold {
     ghost writes = { false };
 }
 
-/// A source over a reader. A contract sees the reader, what it tells, how many reads failed, and how many came after the end.
+/// A source over a reader. A contract sees the reader, what it tells, how many reads failed, and
+/// how many came after the end.
 #[derive(Drop)]
 pub struct StdSource<R: Read + Drop, T: Telling> {
     reader: R,

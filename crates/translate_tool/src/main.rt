@@ -32,7 +32,8 @@ fn words_of(rt: &HostRuntime) -> Option<Result<Vec<String>, AllocError>> {
     }
 }
 
-/// Runs from standard input to standard output, neither of which tells its bytes, and ends with the status of the run.
+/// Runs from standard input to standard output, neither of which tells its bytes, and ends with the
+/// status of the run.
 fn run_over_standard(rt: &HostRuntime, words: &[String]) -> ExitCode
     ensures statuses { exit_status result ≤ 5 }
     ensures success { exit_status result ≡ 0 → Commands (map string_bytes words.now) (HasPlanned None (Gains None None)) }

@@ -29,7 +29,8 @@ pub struct Ended<R: Read + Drop, W: Write + Drop, T: Telling> {
     pub sink: StdSink<W, T>,
 }
 
-/// What the program ends with after a run: its status. A plan is not taken apart, since the system takes back all memory where the program ends.
+/// What the program ends with after a run: its status. A plan is not taken apart, since the system
+/// takes back all memory where the program ends.
 fn end_of(report: Report<'_>) -> ExitCode
     ensures { exit_status result ≡ report.entry.status }
 {
@@ -38,10 +39,11 @@ fn end_of(report: Report<'_>) -> ExitCode
     ExitCode::from(status)
 }
 
-/// Runs from the reader to the writer, once, and ends with the status of the run. The words are those after the program's name.
+/// Runs from the reader to the writer, once, and ends with the status of the run. The words are
+/// those after the program's name.
 ///
-/// What a reader or a writer tells of its bytes is asked where `T` says that it tells them; of one that tells nothing, the same is
-/// proved of all but the bytes themselves.
+/// What a reader or a writer tells of its bytes is asked where `T` says that it tells them; of one
+/// that tells nothing, the same is proved of all but the bytes themselves.
 pub fn run_over<R: Read + Drop, W: Write + Drop, T: Telling>(
     alloc: Global,
     words: &[String],
@@ -75,7 +77,8 @@ pub fn run_over<R: Read + Drop, W: Write + Drop, T: Telling>(
     ensures read_failed { exit_status result.exit ≡ 3 → (0 < result.source.faults) × Commands (map string_bytes words.now) (λ c. c.generate ≡ None) }
     ensures no_read_failed { exit_status result.exit ≢ 3 → result.source.faults ≡ 0 }
 
-    // Status 4: a write failed, exactly, and the writer gained a part of the text or of the line. What was refused is not valid here either.
+    // Status 4: a write failed, exactly, and the writer gained a part of the text or of the line.
+    // What was refused is not valid here either.
     ensures write_failed { exit_status result.exit ≡ 4 → 0 < result.sink.faults }
     ensures no_write_failed { exit_status result.exit ≢ 4 → result.sink.faults ≡ 0 }
     ensures cut_short { exit_status result.exit ≡ 4 → Commands (map string_bytes words.now)
@@ -84,7 +87,8 @@ pub fn run_over<R: Read + Drop, W: Write + Drop, T: Telling>(
     // Where there is neither a plan nor a refusal, nothing was written.
     ensures nothing { (exit_status result.exit ≡ 2) ⊎ (exit_status result.exit ≡ 3) ⊎ (exit_status result.exit ≡ 5) → result.sink.writer ≡ writer }
 
-    // No byte is lost: at most 2^30 were read, and the others are left. Nothing is read where a module is made.
+    // No byte is lost: at most 2^30 were read, and the others are left. Nothing is read where a
+    // module is made.
     ensures bytes { (command : Command) → Names (map string_bytes words.now) command → IsNone command.generate
         → (front : List ℕ) × (length front ≤ 2 ^ 30) × TellsFront (told_if T.reads (R.remaining reader)) front result.source.told }
     ensures made { (command : Command) → Names (map string_bytes words.now) command → IsSome command.generate → result.source.reader ≡ reader }

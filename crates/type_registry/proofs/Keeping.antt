@@ -74,7 +74,8 @@ length-kept (Some x ∷ gs) k (suc f) g h none = grind (arith, length-append, se
 abbrev pub Eq : List WasmSubType → List WasmSubType → Bool
 Eq = groups_equal.ghosts.eq
 
--- a new group that may be kept: there is room, its indices are distinct and not live, and no kept group is equal
+-- a new group that may be kept: there is room, its indices are distinct and not live, and no kept
+-- group is equal
 pub record IsNew (gs : List (Option Group)) (os : List (Option Owner)) (f : ℕ) (g : Group) : Type 0 where
   pub room : f < length gs
   pub empty : group_in gs f ≡ None

@@ -87,7 +87,8 @@ abbrev pub AllApart : Groups → Type 0
 AllApart [] = ⊤
 AllApart (e ∷ es) = AllUnlike e.1 es × AllApart es
 
--- groups that may all be kept: there is room, their indices are distinct and not live, and no two are equal, nor one and a kept one
+-- groups that may all be kept: there is room, their indices are distinct and not live, and no two
+-- are equal, nor one and a kept one
 pub record MayKeep (s : GroupsState) (es : Groups) : Type 0 where
   pub few : length (indices_of s.groups) + length (indices_of es) < 4294967296
   pub spare : length es ≤ s.spare

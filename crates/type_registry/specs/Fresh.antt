@@ -4,7 +4,8 @@ use Rattle.std.specs.List.{list_any}
 use Rattle.type_registry.specs.Registry.{Group, Groups, GroupsState, indices_of}
 use Rattle.type_registry.specs.Changes.{find_group, keep_group}
 
--- a group that may be kept: there is room for it, its indices are distinct and not live, and no kept group is equal
+-- a group that may be kept: there is room for it, its indices are distinct and not live, and no
+-- kept group is equal
 pub record MayBeKept (s : GroupsState) (g : Group) : Type 0 where
   pub few : length (indices_of s.groups) + length g.indices < 4294967296
   pub spare : 0 < s.spare

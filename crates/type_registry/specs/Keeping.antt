@@ -32,7 +32,8 @@ pub record HasCanonical (gs : List (Option Group)) (f : ℕ) (c : List WasmSubTy
   pub kept : group_in gs f ≡ Some group
   pub same : group.canonical ≡ c
 
--- how many indices are live; what has each of them; and the first index of each group by keys that are its canonical members
+-- how many indices are live; what has each of them; and the first index of each group by keys that
+-- are its canonical members
 pub record AreKept {Key : Type 0} (content : Key → List WasmSubType) (live : ℕ) (known : Key → Option ℕ) (gs : List (Option Group))
     (os : List (Option Owner)) (free : List ℕ) : Type 0 where
   pub few : length gs < 4294967296

@@ -13,8 +13,8 @@ use Rattle.wasm_types.specs.Views.{engine_index}
 use Rattle.wasm_types.specs.ValueViews.{Name}
 use Rattle.wasm_types.specs.TypeViews.{sub_type_of}
 
--- a kept group: its members, with references inside it as places and all others as the engine's indices; the index of each; and how often
--- held modules have it
+-- a kept group: its members, with references inside it as places and all others as the engine's
+-- indices; the index of each; and how often held modules have it
 pub record Group : Type 0 where
   pub canonical : List WasmSubType
   pub indices : List ℕ
@@ -35,7 +35,8 @@ pub record GroupsState : Type 0 where
   pub room : ℕ
   pub spare : ℕ
 
--- the most types that may be live, how many registrations there were, the module that is held under each key, and the kept groups
+-- the most types that may be live, how many registrations there were, the module that is held under
+-- each key, and the kept groups
 pub record Registry : Type 0 where
   pub max_types : ℕ
   pub registrations : ℕ

@@ -24,7 +24,8 @@ abbrev pub AreOrdered : Groups → Type 0
 AreOrdered [] = ⊤
 AreOrdered (e ∷ es) = AreAbove e.0 es × AreOrdered es
 
--- groups at their first indices, in their order: no two are equal, and an index belongs to one member of one group
+-- groups at their first indices, in their order: no two are equal, and an index belongs to one
+-- member of one group
 pub record IsSound (gs : Groups) : Type 0 where
   pub ordered : AreOrdered gs
   pub groups : (i j : ℕ) (g h : Group) → lookup (nat_eq i) gs ≡ Some g → lookup (nat_eq j) gs ≡ Some h → g.canonical ≡ h.canonical → i ≡ j
@@ -40,7 +41,8 @@ pub record GroupStands (r : Registry) (indices : List ℕ) (l : TypeList) (s : S
   pub at : group.indices ≡ take (size_of s) (drop s.start indices)
   pub canonical : group_of group.canonical ≡ canonical_data l indices s
 
--- the key is held, its list is as long as that of the types, and each group is kept at the indices of its members
+-- the key is held, its list is as long as that of the types, and each group is kept at the indices
+-- of its members
 pub record Stands (r : Registry) (key : ℕ) (l : TypeList) : Type 0 where
   pub sound : IsSound r.groups
   pub listed : Module
@@ -62,7 +64,8 @@ abbrev pub TellsTypes : Registry → ℕ → TypeList → ℕ → TypeList → T
 TellsTypes r a l b k = (i j : ℕ) → i < length l.types → j < length k.types
     → (index_at r a i ≡ index_at r b j) ↔ SameType (list_groups (list_of l)) (list_groups (list_of k)) i j
 
--- a list that a registry takes: it may be registered, there is room for its types, and the kept groups are told apart
+-- a list that a registry takes: it may be registered, there is room for its types, and the kept
+-- groups are told apart
 pub record MayRegister (r : Registry) (l : TypeList) : Type 0 where
   pub listed : Listed l
   pub few : length l.types < 4294967295

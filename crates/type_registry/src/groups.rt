@@ -196,7 +196,8 @@ impl Groups {
         Ok(())
     }
 
-    /// Makes room for so many indices, and for more groups. Where the map of groups has to grow, its hashes begin from the seed.
+    /// Makes room for so many indices, and for more groups. Where the map of groups has to grow,
+    /// its hashes begin from the seed.
     ///
     /// # Errors
     /// `OutOfMemory`. The groups stay.

@@ -9,8 +9,9 @@ use module_types::ModuleTypes;
 use std::hash::{BuildHasher, DefaultHasher, Hash, Hasher};
 use wasm_types::WasmSubType;
 
-/// SipHash that fills up what is shorter than a word, since it takes a word at once and bytes one by one. Zeros that are filled in make no two
-/// types alike: how many bytes each write has is told by the writes before it.
+/// SipHash that fills up what is shorter than a word, since it takes a word at once and bytes one
+/// by one. Zeros that are filled in make no two types alike: how many bytes each write has is told
+/// by the writes before it.
 #[derive(Clone, Copy)]
 pub(crate) struct WordHasher {
     pub(crate) sip: DefaultHasher,
@@ -59,8 +60,9 @@ impl Hasher for WordHasher {
     }
 }
 
-/// Makes hashers of groups that have taken a seed first. Groups come module by module, and strangers choose them who know those that came
-/// before, and so the seed: each group is hashed whole by SipHash, of which no groups with one digest are known.
+/// Makes hashers of groups that have taken a seed first. Groups come module by module, and
+/// strangers choose them who know those that came before, and so the seed: each group is hashed
+/// whole by SipHash, of which no groups with one digest are known.
 #[derive(Clone, Copy)]
 pub(crate) struct GroupHashes {
     first: WordHasher,

@@ -14,7 +14,8 @@ use std::rc::Rc;
 use wasm_index::VMSharedTypeIndex;
 use wasm_types::{WasmRecGroup, WasmSubType};
 
-/// A kept group: its members as they are compared and as they are used, the index of each, and how often held modules have it.
+/// A kept group: its members as they are compared and as they are used, the index of each, and how
+/// often held modules have it.
 #[derive(Drop)]
 pub(crate) struct Kept {
     pub(crate) canonical: Rc<WasmRecGroup>,

@@ -30,8 +30,8 @@ fn moved(old: Known, into: Known) -> Known
     into
 }
 
-/// Makes room for more groups. Where the map has to grow, another one is made that has room for twice as many, whose hashes begin from the
-/// seed.
+/// Makes room for more groups. Where the map has to grow, another one is made that has room for
+/// twice as many, whose hashes begin from the seed.
 ///
 /// # Errors
 /// `OutOfMemory`. The map is as it was then.

@@ -16,8 +16,8 @@ ghost use Rattle.type_registry.specs.Balanced.{IsBalanced};
 use module_types::well_named_law;
 use wasm_types::equality_law;
 
-/// A list whose groups lie behind one another and name types by their kinds may be registered, and so may the list of a builder that holds
-/// the interned list.
+/// A list whose groups lie behind one another and name types by their kinds may be registered, and
+/// so may the list of a builder that holds the interned list.
 pub fn listed_law()
     ensures listed { (l : TypeList) → IsWellNamed (list_of l) → length l.types < 4294967295 → Listed l }
     ensures built { (s : BuilderState) (ms : List (Group ℕ ℕ)) (tags : List ℕ) (startup : Bool) → NameEarlier 0 ms
@@ -31,13 +31,15 @@ pub fn same_law()
     ensures { (r : Registry) (a b : ℕ) (l k : TypeList) → Listed l → Listed k → Stands r a l → Stands r b k → TellsTypes r a l b k }
 {}
 
-/// The types of two held modules have one index where they have one in another registry, whatever was registered and in which order.
+/// The types of two held modules have one index where they have one in another registry, whatever
+/// was registered and in which order.
 pub fn order_law()
     ensures { (r s : Registry) (a b c d : ℕ) (l k : TypeList) → Listed l → Listed k → Stands r a l → Stands r b k → Stands s c l → Stands s d k
         → (i j : ℕ) → i < length l.types → j < length k.types → (index_at r a i ≡ index_at r b j) ↔ (index_at s c i ≡ index_at s d j) }
 {}
 
-/// Kept groups are told apart in a registry that holds nothing, once a module is registered, and once one is released.
+/// Kept groups are told apart in a registry that holds nothing, once a module is registered, and
+/// once one is released.
 pub fn sound_law()
     ensures empty { (n : ℕ) → IsSound (empty n).groups }
     ensures registered { (r : Registry) (l : TypeList) → MayRegister r l → IsSound (registered r l).groups }
@@ -55,8 +57,9 @@ pub fn registered_law()
     equality_law();
 }
 
-/// Held modules and kept groups agree in a registry that holds nothing, once a module is registered, and once one is released. While they
-/// agree, an index is live exactly where the list of a held module has it, and a module that stands stays so where another one is released.
+/// Held modules and kept groups agree in a registry that holds nothing, once a module is
+/// registered, and once one is released. While they agree, an index is live exactly where the list
+/// of a held module has it, and a module that stands stays so where another one is released.
 pub fn balanced_law()
     ensures empty { (n : ℕ) → IsBalanced (empty n) }
     ensures registered { (r : Registry) (l : TypeList) → MayRegister r l → IsBalanced r → IsBalanced (registered r l) }

@@ -81,7 +81,8 @@ pub(crate) fn canonical(
     Ok(group)
 }
 
-/// The members of the group from one place to another as they are used, where they and the types before them have indices.
+/// The members of the group from one place to another as they are used, where they and the types
+/// before them have indices.
 pub(crate) fn used(
     alloc: Global,
     types: &ModuleTypes,

@@ -81,7 +81,8 @@ fn find_equal<'a>(
     }
 }
 
-/// A group that no module has yet, whose members have these indices: the last of those that are given to types so far.
+/// A group that no module has yet, whose members have these indices: the last of those that are
+/// given to types so far.
 fn fresh_group(
     source: Source<'_>,
     start: u32,

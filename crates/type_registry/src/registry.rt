@@ -153,7 +153,8 @@ impl TypeRegistry {
         Some(self.held(key)?.len())
     }
 
-    /// The engine's index of a type of a held module: none where the key is not held, or where the module has no such type.
+    /// The engine's index of a type of a held module: none where the key is not held, or where the
+    /// module has no such type.
     pub fn index_of(&self, key: ModuleKey, ty: ModuleInternedTypeIndex) -> Option<VMSharedTypeIndex>
         ensures { option_map number_of result ≡ index_at (registry_of self.now) (key_number key) (number_of ty) }
     {
@@ -206,12 +207,13 @@ impl TypeRegistry {
         plan_groups(source, seed)
     }
 
-    /// Holds a module of these types: each group that no held module has takes the least indices that are not live, and each other group
-    /// has the indices that it has already. The key's number is how many modules were registered before.
+    /// Holds a module of these types: each group that no held module has takes the least indices
+    /// that are not live, and each other group has the indices that it has already. The key's
+    /// number is how many modules were registered before.
     ///
     /// # Errors
-    /// `Full` where there would be more types than may be live, or where no number is left for the key; and `OutOfMemory`. The registry is
-    /// as it was then.
+    /// `Full` where there would be more types than may be live, or where no number is left for the
+    /// key; and `OutOfMemory`. The registry is as it was then.
     pub fn register(&mut self, types: &ModuleTypes) -> Result<ModuleKey, RegistryError>
         requires { Listed types.now }
         ensures key { IfOk result (λ key. key_number key ≡ self.old.registrations) }
@@ -245,7 +247,8 @@ impl TypeRegistry {
         Ok(ModuleKey(key))
     }
 
-    /// Lets a module go. Groups that no held module has any more are kept no longer, and their indices are free. It takes no memory.
+    /// Lets a module go. Groups that no held module has any more are kept no longer, and their
+    /// indices are free. It takes no memory.
     ///
     /// # Errors
     /// `NotHeld` where no module is held under the key; the registry is as it was then.

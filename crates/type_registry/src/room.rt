@@ -9,7 +9,8 @@ use entity_map::OutOfMemory;
 use free_numbers::FreeNumbers;
 use std::alloc::Global;
 
-/// How many indices there is to be room for where there is room for `len` and so many are needed: twice as many at least, as far as they can be counted.
+/// How many indices there is to be room for where there is room for `len` and so many are needed:
+/// twice as many at least, as far as they can be counted.
 pub(crate) fn room_for(needed: u32, len: usize) -> usize
     requires { len < 4294967296 }
     ensures enough { needed ≤ result }

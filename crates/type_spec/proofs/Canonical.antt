@@ -13,7 +13,8 @@ alike-becomes Same Same' each g h alike = record {
   edges = zip-becomes (plainly group_shape) Same Same' each _ _ alike.edges;
 }
 
--- where numbers of types before two groups are equal exactly for the same types, the groups' canonical forms are equal exactly where the groups are
+-- where numbers of types before two groups are equal exactly for the same types, the groups'
+-- canonical forms are equal exactly where the groups are
 module _ (Same : ℕ → ℕ → Type 0) (number number' : ℕ → ℕ) (g h : Home)
     (tells : (i j : ℕ) → i < g.start → j < h.start → (number i ≡ number' j) ↔ Same i j) where
   to : (i j : ℕ) (b c : Bool) → nat_le g.start i ≡ b → nat_le h.start j ≡ c → (p q : ℕ)

@@ -1,4 +1,5 @@
--- Numbers that are equal exactly at equal places of groups with equal canonical forms are equal exactly for equal types.
+-- Numbers that are equal exactly at equal places of groups with equal canonical forms are equal
+-- exactly for equal types.
 use Rattle.std.proofs.Common.{◌≡◌, ◌↔◌, ℕ, zero, suc, ◌-◌, ◌<◌, List, arith}
 use Rattle.wasm_spec.specs.TypeData.{Group}
 use Rattle.type_spec.specs.Equality.{home, canonical, SameDown, SameType}

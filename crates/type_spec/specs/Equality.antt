@@ -1,12 +1,13 @@
--- Iso-recursive equality of types (core specification, 3.1, recursive types), over lists of groups in which a reference is a place in the
--- joined list.
+-- Iso-recursive equality of types (core specification, 3.1, recursive types), over lists of groups
+-- in which a reference is a place in the joined list.
 use Rattle.std.specs.Prelude.{◌≡◌, ℕ, zero, suc, ◌+◌, ◌-◌, Bool, true, false, nat_eq, nat_le, nat_lt, ◌&&◌, List, [], ◌∷◌, length, if◌then◌else◌}
 use Rattle.std.specs.Cmp.Lexicographic.{pointwise}
 use Rattle.wasm_spec.specs.TypeData.{Group, map_group, group_edges}
 use Rattle.type_data.specs.Shapes.{erased, AreAlike}
 use Rattle.type_spec.specs.Same.{same_frame}
 
--- a reference out of a group that starts at a place of the joined list: to a place of the group, or to an earlier type
+-- a reference out of a group that starts at a place of the joined list: to a place of the group, or
+-- to an earlier type
 pub data Target (X : Type 0) : Type 0 where
   Inside : (place : ℕ) → Target X
   Earlier : (what : X) → Target X
@@ -40,7 +41,8 @@ group_references g = group_edges (λ r. r) g.members
 
 -- ---- what equality is
 
--- two references are equal where both stay in their groups at equal places, or both leave them and the types they name are equal
+-- two references are equal where both stay in their groups at equal places, or both leave them and
+-- the types they name are equal
 abbrev pub SameTarget : {X Y : Type 0} → (X → Y → Type 0) → Target X → Target Y → Type 0
 SameTarget Same (Inside p) (Inside q) = p ≡ q
 SameTarget Same (Earlier a) (Earlier b) = Same a b

@@ -1,5 +1,5 @@
--- The interned list of a module: each group of types (core specification, 2.3, recursive types) once with its trampolines, then the
--- exception types and the startup type.
+-- The interned list of a module: each group of types (core specification, 2.3, recursive types)
+-- once with its trampolines, then the exception types and the startup type.
 use Rattle.std.specs.Prelude.{ℕ, zero, suc, ◌+◌, ◌-◌, get_or, Bool, true, false, nat_lt, List, [], ◌∷◌, ◌++◌, length, map, replicate, set, Option, Some, None, if◌then◌else◌}
 use Rattle.std.specs.List.{fold}
 use Rattle.wasm_spec.specs.declared.types.AbstractHeapType.{AbstractHeapType}
@@ -61,7 +61,8 @@ pub record Span : Type 0 where
   pub start : ℕ
   pub end : ℕ
 
--- the types, the indices of each group, the trampoline of each function that has one, and the trampoline that is known of each mapped type
+-- the types, the indices of each group, the trampoline of each function that has one, and the
+-- trampoline that is known of each mapped type
 pub record Built : Type 0 where
   pub types : List Interned
   pub groups : List Span
@@ -98,7 +99,8 @@ now_known known f k g = if same_mapped f g then Some k else known g
 abbrev pub knows : Built → Called → ℕ → Built
 knows b f k = record b { known_trampolines = now_known b.known_trampolines f k }
 
--- the trampoline of the function at an index: it is known, or the function itself, or a new type that is appended
+-- the trampoline of the function at an index: it is known, or the function itself, or a new type
+-- that is appended
 abbrev pub assign_at : Built → ℕ → Called → Option ℕ → Built
 assign_at b i f (Some k) = with_trampoline b i k
 assign_at b i f None =

@@ -4,8 +4,8 @@ ghost use Rattle.std.specs.Prelude.{◌≡◌, ◌↔◌, ℕ, List, true};
 ghost use Rattle.wasm_spec.specs.TypeData.{Group};
 ghost use Rattle.type_spec.specs.Equality.{Home, SameDown, SameGroup, SameType, same_type, canonical};
 
-/// Where numbers of earlier types are equal exactly for equal types, groups of one list or of two have equal canonical forms exactly
-/// where they are equal.
+/// Where numbers of earlier types are equal exactly for equal types, groups of one list or of two
+/// have equal canonical forms exactly where they are equal.
 pub fn canonical_law()
     ensures { (depth : ℕ) (ms ns : List (Group ℕ ℕ)) (number number' : ℕ → ℕ)
         → ((i j : ℕ) → (number i ≡ number' j) ↔ SameDown depth ms ns i j)
@@ -17,7 +17,8 @@ pub fn decided_law()
     ensures { (ms ns : List (Group ℕ ℕ)) (i j : ℕ) → (same_type ms ns i j ≡ true) ↔ SameType ms ns i j }
 {}
 
-/// Equality of types is an equivalence, within a list and across lists, and no depth tells more types equal than that of the first place.
+/// Equality of types is an equivalence, within a list and across lists, and no depth tells more
+/// types equal than that of the first place.
 pub fn equivalence_law()
     ensures itself { (ms : List (Group ℕ ℕ)) (i : ℕ) → SameType ms ms i i }
     ensures turned { (ms ns : List (Group ℕ ℕ)) (i j : ℕ) → SameType ms ns i j → SameType ns ms j i }

@@ -20,7 +20,8 @@ pub fn worked_equality()
     ensures across { same_type twice longer 2 0 ≡ true }
 {}
 
-/// A group that is repeated is interned once, and one that differs in finality is another; both have one trampoline.
+/// A group that is repeated is interned once, and one that differs in finality is another; both
+/// have one trampoline.
 pub fn worked_repeated()
     ensures types { (interned repeated [] false).types ≡ plain (Func (record { params = []; results = [] }))
         ∷ record { is_final = false; supertype = None; composite = record { inner = Func (record { params = []; results = [] }); shared = false } } ∷ [] }
@@ -35,7 +36,8 @@ pub fn worked_hollow()
     ensures declared { (taken hollow).declared ≡ 0 ∷ 1 ∷ [] }
 {}
 
-/// Lists that take equal groups in turn have one interned list, wherever the groups start; in another order they have another.
+/// Lists that take equal groups in turn have one interned list, wherever the groups start; in
+/// another order they have another.
 pub fn worked_taken()
     ensures repeated { taken_groups repeated
         ≡ record { start = 0; members = function true [] ∷ [] } ∷ record { start = 2; members = function false [] ∷ [] } ∷ [] }

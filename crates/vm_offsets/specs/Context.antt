@@ -6,8 +6,8 @@ use Rattle.vm_structs.specs.Fields.{size_of, end_of}
 use Rattle.vm_structs.specs.Structs.{function_import, table_import, memory_import, tag_import, global_import, memory_definition, table_definition, global_definition, tag_definition, func_ref, static_context}
 use Rattle.vm_offsets.specs.declared.fields.VMOffsetsFields.{VMOffsetsFields}
 
--- a row of the table: a step to the next multiple of a number; or an entry, with its description, the number of its
--- elements and their size
+-- a row of the table: a step to the next multiple of a number; or an entry, with its description,
+-- the number of its elements and their size
 pub data Row : Type 0 where
   align : (to : ℕ) → Row
   entry : (description : List ℕ) → (count size : ℕ) → Row

@@ -3,8 +3,8 @@ use Rattle.std.specs.Prelude.{ℕ, ◌-◌, List, [], ◌∷◌, reverse, codes}
 use Rattle.vm_offsets.specs.declared.fields.VMOffsetsFields.{VMOffsetsFields}
 use Rattle.vm_offsets.specs.Context.{Placed, context_entries, context_size}
 
--- the description and the size of each entry's region, from the last one back: a region reaches from the start of its
--- entry to the start of the next one, here end
+-- the description and the size of each entry's region, from the last one back: a region reaches
+-- from the start of its entry to the start of the next one, here end
 abbrev pub regions_back : ℕ → List Placed → List (List ℕ × ℕ)
 regions_back end [] = []
 regions_back end (placed ∷ before) = (placed.description, end - placed.begin) ∷ regions_back placed.begin before

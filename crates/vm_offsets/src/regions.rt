@@ -17,7 +17,8 @@ use crate::part::ContextPart;
 use std::marker::Model;
 use vm_structs::PtrSize;
 
-/// Gives the description and the size, in bytes, of each region of a context. A contract sees the list of those that are left.
+/// Gives the description and the size, in bytes, of each region of a context. A contract sees the
+/// list of those that are left.
 #[derive(Drop)]
 pub struct RegionSizes {
     parts: [ContextPart; 15],
@@ -93,8 +94,9 @@ impl<P: PtrSize> VMOffsets<P> {
         ]
     }
 
-    /// The regions of the context, the last one first. The region of an entry reaches to the next entry, or to the end,
-    /// so what fills the bytes up to a multiple counts in the region before it. What every module has comes last.
+    /// The regions of the context, the last one first. The region of an entry reaches to the next
+    /// entry, or to the end, so what fills the bytes up to a multiple counts in the region before
+    /// it. What every module has comes last.
     pub fn region_sizes(&self) -> RegionSizes
         ensures { result ≡ context_regions (pointer_of self.now) (fields_of self.now) }
     {

@@ -14,8 +14,8 @@ pub record Field : Type 0 where
   pub size : ℕ
   pub align : ℕ
 
--- where the field of a name begins, if there is one: a field begins at the least multiple of its alignment that is not
--- before the end of the field before it, here at
+-- where the field of a name begins, if there is one: a field begins at the least multiple of its
+-- alignment that is not before the end of the field before it, here at
 abbrev pub offset_from : ℕ → List Field → List ℕ → Option ℕ
 offset_from at [] name = None
 offset_from at (field ∷ fields) name =

@@ -6,8 +6,8 @@ pub const NUM_COMPONENT_CONTEXT_SLOTS: usize = 2;
 /// The number at the start of each context of an instance: the bytes `core`, the lowest first.
 pub const VMCONTEXT_MAGIC: u32 = 0x6572_6f63;
 
-/// The number at the start of each context of a host function that is called with an array: the bytes `ACHF`, the
-/// lowest first.
+/// The number at the start of each context of a host function that is called with an array: the
+/// bytes `ACHF`, the lowest first.
 pub const VM_ARRAY_CALL_HOST_FUNC_MAGIC: u32 = 0x4648_4341;
 
 /// The bits that stand for the thread whose creation was forced.

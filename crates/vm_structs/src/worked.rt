@@ -26,7 +26,8 @@ pub fn worked_sizes()
     ensures static_context { end_of static_context 8 ∷ end_of static_context 4 ∷ [] ≡ 48 ∷ 24 ∷ [] }
 {}
 
-/// Fields that padding comes before, names that no field has, and the alignment of a struct with wide numbers.
+/// Fields that padding comes before, names that no field has, and the alignment of a struct with
+/// wide numbers.
 pub fn worked_fields()
     ensures after_a_number { offset_of func_ref (codes "vmctx") 8
         ∷ offset_of func_ref (codes "vmctx") 4 ∷ [] ≡ Some 24 ∷ Some 12 ∷ [] }

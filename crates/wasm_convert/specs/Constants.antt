@@ -1,4 +1,5 @@
--- Constant expressions of a translated module (core specification, 5.4, instructions): where they come from, and their values.
+-- Constant expressions of a translated module (core specification, 5.4, instructions): where they
+-- come from, and their values.
 use Rattle.std.specs.Prelude.{◌≡◌, List, [], ◌∷◌, map, Option, Some, None, pos}
 use Rattle.std.specs.Int.{cast_unsigned, w32, w64}
 use Rattle.std.specs.List.{filter_map}

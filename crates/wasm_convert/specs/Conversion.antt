@@ -1,5 +1,6 @@
--- Types that were read become types of a translated module (core specification, 2.3): each index becomes what it is looked up to, and all
--- else stays. So conversion is the one `map` of types as data, by a look-up.
+-- Types that were read become types of a translated module (core specification, 2.3): each index
+-- becomes what it is looked up to, and all else stays. So conversion is the one `map` of types as
+-- data, by a look-up.
 use Rattle.std.specs.Prelude.{if◌then◌else◌}
 use Rattle.wasm_spec.specs.declared.types.UnpackedIndex.{UnpackedIndex}
 use Rattle.wasm_spec.specs.declared.types.HeapType.{HeapType}

@@ -1,4 +1,5 @@
--- Operators of constant expressions (core specification, 3.4, constant expressions) in a translated module, and the operators that were read.
+-- Operators of constant expressions (core specification, 3.4, constant expressions) in a translated
+-- module, and the operators that were read.
 use Rattle.std.specs.Prelude.{ℕ, ◌<◌, List, [], length, nat_eq, Option, None, ⊤, codes, if◌then◌else◌}
 use Rattle.wasm_spec.specs.declared.types.UnpackedIndex.{UnpackedIndex}
 use Rattle.wasm_spec.specs.declared.types.HeapType.TheVariants.{Abstract}
@@ -132,7 +133,8 @@ place_of_operator (ops.ArrayNewFixed t size) = 19
 place_of_operator ops.ExternConvertAny = 20
 place_of_operator ops.AnyConvertExtern = 21
 
--- what a constant, a sum, a difference or a product makes of values, as many as it takes; none of another operator
+-- what a constant, a sum, a difference or a product makes of values, as many as it takes; none of
+-- another operator
 abbrev pub plain_result : ConstOp → List Value → Option Value
 plain_result op taken = let a = action [] (λ t. 0) (operator_of op) in
     if is_plain (operator_of op) then (if nat_eq (length taken) a.takes then a.makes taken else None) else None

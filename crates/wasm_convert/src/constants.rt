@@ -75,7 +75,8 @@ impl ConstExpr {
     }
 
     /// The expression that was read, each operator converted, and the functions to which it makes references,
-    /// in order: those escape. Of the expression each heap type must be known, and each index below `u32::MAX`.
+    /// in order: those escape. Of the expression each heap type must be known, and each index below
+    /// `u32::MAX`.
     ///
     /// # Errors
     /// `OutOfMemory`, only for more than two operators or more than one function.

@@ -28,7 +28,8 @@ use wasm_types::{
     WasmHeapType, WasmRefType, WasmStorageType, WasmStructType, WasmSubType, WasmValType,
 };
 
-/// What knows the types that indices name, and so converts types that were read into those of a translated module.
+/// What knows the types that indices name, and so converts types that were read into those of a
+/// translated module.
 /// Of a type that is converted each index must be known, and none may be a place in a group.
 pub trait TypeConvert {
     /// The indices that it knows.

@@ -50,7 +50,8 @@ impl Stack {
         op.joined(first, second)
     }
 
-    /// What the operator leaves, where it is a constant or arithmetic that finds its values, and there is room.
+    /// What the operator leaves, where it is a constant or arithmetic that finds its values, and
+    /// there is room.
     pub fn apply(&mut self, op: ConstOp) -> Option<()>
         ensures { option_map (λ done. plain_stack self.new) result ≡ plain_step (operator_of op) (plain_stack self.old) }
     {

@@ -17,7 +17,8 @@ use wasm_index::{FuncIndex, GlobalIndex, TypeIndex};
 use wasm_spec::{AbstractHeapType, HeapType, Operator};
 use wasm_types::WasmHeapType;
 
-/// An operator of a constant expression (core specification, 3.4, constant expressions). Floats and vectors are their bits.
+/// An operator of a constant expression (core specification, 3.4, constant expressions). Floats and
+/// vectors are their bits.
 #[derive(Clone, Copy, Debug, PartialEq, Eq, Hash)]
 pub enum ConstOp {
     I32Const(i32),
@@ -294,7 +295,8 @@ impl ConstOp {
         }
     }
 
-    /// What a sum, a difference or a product makes of two values; none of another operator or of other values.
+    /// What a sum, a difference or a product makes of two values; none of another operator or of
+    /// other values.
     pub fn joined(
         &self,
         first: GlobalConstValue,

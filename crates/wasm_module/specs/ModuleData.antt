@@ -1,5 +1,5 @@
--- Functions, startups and modules as data over the types that they name. `H` stands at a concrete heap type, and `R` wherever else a type is
--- named.
+-- Functions, startups and modules as data over the types that they name. `H` stands at a concrete
+-- heap type, and `R` wherever else a type is named.
 use Rattle.std.specs.Prelude.{List, [], map}
 use Rattle.wasm_index.specs.declared.index.Index.{Index}
 use Rattle.wasm_types.specs.declared.index.EngineOrModuleTypeIndex.{EngineOrModuleTypeIndex}

@@ -11,7 +11,8 @@ use crate::module::Module;
 use std::marker::Model;
 use wasm_types::{EntityIndex, EntityType};
 
-/// The imports of a module, in order: the name of the module from which each comes, its own name, and its type.
+/// The imports of a module, in order: the name of the module from which each comes, its own name,
+/// and its type.
 #[derive(Drop)]
 pub struct Imports<'a> {
     module: &'a Module,
@@ -89,7 +90,8 @@ impl Module {
         Some(*index)
     }
 
-    /// The place of the first import that is an entity, which is none exactly where the entity is not imported or no import is it.
+    /// The place of the first import that is an entity, which is none exactly where the entity is
+    /// not imported or no import is it.
     /// Of an imported entity this goes through the imports up to that place.
     pub fn import_position(&self, e: EntityIndex) -> Option<usize>
         ensures { IsFirstImport (record_of self.now) e result }

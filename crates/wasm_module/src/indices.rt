@@ -53,7 +53,8 @@ impl Module {
         after_imports(self.num_imported_funcs, i)
     }
 
-    /// The defined function at an index, which is none exactly for an imported one. The index may be any but the reserved one.
+    /// The defined function at an index, which is none exactly for an imported one. The index may
+    /// be any but the reserved one.
     pub fn defined_func_index(&self, i: FuncIndex) -> Option<DefinedFuncIndex>
         requires { number_of i < u32.MAX }
         ensures { result ≡ defined_at self.now.num_imported_funcs i }
@@ -69,7 +70,8 @@ impl Module {
         after_imports(self.num_imported_tables, i)
     }
 
-    /// The defined table at an index, which is none exactly for an imported one. The index may be any but the reserved one.
+    /// The defined table at an index, which is none exactly for an imported one. The index may be
+    /// any but the reserved one.
     pub fn defined_table_index(&self, i: TableIndex) -> Option<DefinedTableIndex>
         requires { number_of i < u32.MAX }
         ensures { result ≡ defined_at self.now.num_imported_tables i }
@@ -85,7 +87,8 @@ impl Module {
         after_imports(self.num_imported_memories, i)
     }
 
-    /// The defined memory at an index, which is none exactly for an imported one. The index may be any but the reserved one.
+    /// The defined memory at an index, which is none exactly for an imported one. The index may be
+    /// any but the reserved one.
     pub fn defined_memory_index(&self, i: MemoryIndex) -> Option<DefinedMemoryIndex>
         requires { number_of i < u32.MAX }
         ensures { result ≡ defined_at self.now.num_imported_memories i }
@@ -112,7 +115,8 @@ impl Module {
         after_imports(self.num_imported_globals, i)
     }
 
-    /// The defined global at an index, which is none exactly for an imported one. The index may be any but the reserved one.
+    /// The defined global at an index, which is none exactly for an imported one. The index may be
+    /// any but the reserved one.
     pub fn defined_global_index(&self, i: GlobalIndex) -> Option<DefinedGlobalIndex>
         requires { number_of i < u32.MAX }
         ensures { result ≡ defined_at self.now.num_imported_globals i }
@@ -128,7 +132,8 @@ impl Module {
         after_imports(self.num_imported_tags, i)
     }
 
-    /// The defined tag at an index, which is none exactly for an imported one. The index may be any but the reserved one.
+    /// The defined tag at an index, which is none exactly for an imported one. The index may be any
+    /// but the reserved one.
     pub fn defined_tag_index(&self, i: TagIndex) -> Option<DefinedTagIndex>
         requires { number_of i < u32.MAX }
         ensures { result ≡ defined_at self.now.num_imported_tags i }

@@ -13,7 +13,8 @@ ghost use Rattle.wasm_index.specs.declared.spaces.TagSpace.{TagSpace};
 ghost use Rattle.wasm_module.specs.Record.{ModuleRecord};
 ghost use Rattle.wasm_module.specs.Spaces.{ComesBack};
 
-/// In each space, the defined entity at the index of a defined entity is that entity, wherever it has an index.
+/// In each space, the defined entity at the index of a defined entity is that entity, wherever it
+/// has an index.
 pub fn defined_index_laws()
     ensures functions { (m : ModuleRecord) → ComesBack FuncSpace DefinedFuncSpace m.num_imported_funcs }
     ensures tables { (m : ModuleRecord) → ComesBack TableSpace DefinedTableSpace m.num_imported_tables }

@@ -19,7 +19,8 @@ use wasm_index::{
 };
 use wasm_types::{EngineOrModuleTypeIndex, EntityIndex, Global, Memory, Table, Tag, WasmRefType};
 
-/// A translated module, without the bodies of its functions. In each index space the imported entities stand first.
+/// A translated module, without the bodies of its functions. In each index space the imported
+/// entities stand first.
 #[derive(Drop)]
 pub struct Module {
     /// The number of the module among those that are translated together.
@@ -34,7 +35,8 @@ pub struct Module {
     pub exports: IndexMap<Atom, EntityIndex>,
     /// What runs when the module is instantiated.
     pub startup: ModuleStartup,
-    /// The image of each defined table: the functions in its first cells. The reserved index stands for the null reference.
+    /// The image of each defined table: the functions in its first cells. The reserved index stands
+    /// for the null reference.
     pub table_initialization: PrimaryMap<DefinedTableIndex, Vec<FuncIndex>>,
     /// How the memories begin.
     pub memory_initialization: MemoryInitialization,

@@ -4,8 +4,8 @@ ghost use Rattle.std.specs.Prelude.{◌≡◌, ◌↔◌, IsTrue};
 
 use wasm_types::EngineOrModuleTypeIndex;
 
-/// Whether a module needs a startup function when it is instantiated (core specification, 4.7, instantiation), and the type of that function, which
-/// takes and gives nothing.
+/// Whether a module needs a startup function when it is instantiated (core specification, 4.7,
+/// instantiation), and the type of that function, which takes and gives nothing.
 #[derive(Drop)]
 pub enum ModuleStartup {
     /// There is nothing to run.

@@ -1,4 +1,5 @@
--- A run over all edges that passes the engine's on to another visitor is a run of that over the engine's edges.
+-- A run over all edges that passes the engine's on to another visitor is a run of that over the
+-- engine's edges.
 use Rattle.std.proofs.Common.{◌≡◌, ◌∙◌, List, [], ◌∷◌, ◌++◌, Result, Ok, Err, ap, subst, inl, inr}
 use Rattle.std.specs.Fn.{Mut, Called, Takes}
 use Rattle.std.proofs.lemmas.List.Elements.{filter_map-append}

@@ -29,7 +29,8 @@ module _ (table : Index ModuleInternedTypeSpace → Index VMSharedTypeSpace → 
   IsRuntimeEdge (Module i) new = IsEngineIndexOf i new
   IsRuntimeEdge (RecGroup i) new = ⊥
 
-  -- what becomes of an edge where those into the types from `start` on become relative to it, and all others the engine's
+  -- what becomes of an edge where those into the types from `start` on become relative to it, and
+  -- all others the engine's
   abbrev pub IsConsedEdge : ℕ → EngineOrModuleTypeIndex → EngineOrModuleTypeIndex → Type 0
   IsConsedEdge start (Engine i) new = new ≡ Engine i
   IsConsedEdge start (Module i) new =
@@ -44,7 +45,8 @@ module _ (may : Index ModuleInternedTypeSpace → Type 0) where
   CanBeRuntimeEdge (Module i) = may i
   CanBeRuntimeEdge (RecGroup i) = ⊥
 
-  -- an edge that can become so: none is into a group, the table may be called below the range, and none is past it
+  -- an edge that can become so: none is into a group, the table may be called below the range, and
+  -- none is past it
   abbrev pub CanBeConsedEdge : ℕ → ℕ → EngineOrModuleTypeIndex → Type 0
   CanBeConsedEdge start end (Engine i) = ⊤
   CanBeConsedEdge start end (Module i) = (number_of i < start → may i) × (start ≤ number_of i → number_of i < end)

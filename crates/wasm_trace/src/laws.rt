@@ -12,7 +12,8 @@ ghost use Rattle.wasm_trace.specs.Runs.{Run, RunBoth, RunMut, RunBothMut, Change
 use crate::trace::TypeTrace;
 use wasm_types::EngineOrModuleTypeIndex;
 
-/// A run over two joined lists is the run over the first and, where that returns `Ok`, the run over the second.
+/// A run over two joined lists is the run over the first and, where that returns `Ok`, the run over
+/// the second.
 pub fn run_laws<F, E>()
 where
     F: FnMut(EngineOrModuleTypeIndex) -> Result<(), E>,
@@ -37,7 +38,8 @@ where
         → RunMut F.FnMut before (T.shape.edges (T.view old)) result after (T.shape.edges (T.view new)) → new ≡ old }
 {}
 
-/// Two values in the form in which types are compared are equal exactly where they were alike but for references that become equal.
+/// Two values in the form in which types are compared are equal exactly where they were alike but
+/// for references that become equal.
 pub fn compared_forms_law<T: TypeTrace>()
     ensures { (engine engine' : Index ModuleInternedTypeSpace → Index VMSharedTypeSpace) (start start' : ℕ) (x y x' y' : T)
         → T.view x' ≡ T.shape.map (consed_edge engine start) (T.view x) → T.view y' ≡ T.shape.map (consed_edge engine' start') (T.view y)

@@ -110,8 +110,8 @@ impl WasmFuncType {
         }
     }
 
-    /// Takes its types out, the parameters first, and says how many parameters there are. The empty function type is
-    /// left.
+    /// Takes its types out, the parameters first, and says how many parameters there are. The empty
+    /// function type is left.
     pub fn take_types(&mut self) -> (Vec<WasmValType>, u32)
         ensures types { result.0.items ≡ self.old.params ++ self.old.results }
         ensures count { result.1 ≡ length self.old.params }
@@ -158,8 +158,8 @@ impl WasmFuncType {
         self.non_i31_gc_ref_results_count as usize
     }
 
-    /// The type index in the value type at a place of the parameters and then the results, for writing. It is None
-    /// where the place is past both, or the type there has no index.
+    /// The type index in the value type at a place of the parameters and then the results, for
+    /// writing. It is None where the place is past both, or the type there has no index.
     pub fn index_mut(&mut self, at: usize) -> Option<&mut EngineOrModuleTypeIndex>
         ensures* writes_back { sem 𝓛 (LendsFuncIndex self.entry at result) }
         ensures value { option_copied_mut result ≡ index_at self.old at }
@@ -174,8 +174,9 @@ impl WasmFuncType {
         are_trampoline_types(self.params()) && are_trampoline_types(self.results())
     }
 
-    /// The type by which functions of this type are called from outside: each of its references becomes nullable
-    /// and points to the top of its hierarchy. Where that changes nothing, it is borrowed.
+    /// The type by which functions of this type are called from outside: each of its references
+    /// becomes nullable and points to the top of its hierarchy. Where that changes nothing, it is
+    /// borrowed.
     ///
     /// # Errors
     /// `OutOfMemory` where a changed type cannot be allocated; a borrowed one needs no memory.

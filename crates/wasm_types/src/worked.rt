@@ -34,7 +34,8 @@ pub fn worked_texts()
         ≡ codes "(sub final (module 3) (struct))" }
 {}
 
-/// A reference to an i31 is collected and is not an object; in a trampoline it is a nullable reference to anything.
+/// A reference to an i31 is collected and is not an object; in a trampoline it is a nullable
+/// reference to anything.
 pub fn worked_references()
     ensures collected { val_is_collected (WasmValType.Ref (record { nullable = false; heap_type = WasmHeapType.I31 })) ≡ true }
     ensures no_object { val_is_object (WasmValType.Ref (record { nullable = false; heap_type = WasmHeapType.I31 })) ≡ false }
