@@ -1,4 +1,20 @@
-//! The contents of two custom sections: names, and hints at branches.
+//! The contents of name sections and of branch hints, for `module_customs`.
+//!
+//! `read_names` returns the names before the first fault of the section. `read_hints` returns all
+//! hints, or `None` where the contents are no such section. Laws prove that what the grammars spell
+//! is read whole.
+//!
+//! ```
+//! let names = read_names(alloc, contents, true)?; // true: also names of locals
+//! let module_name = names.module_name;
+//! let hints = read_hints(alloc, other)?; // None where a byte is wrong
+//! let debug = is_debug_name(".debug_info"); // true
+//! ```
+//!
+//! Names are slices of the input. Lists grow as entries are read, so a large count alone takes no
+//! memory.
+//!
+//! Read on: `names`, `hints`, `debug`; `module_customs` chooses the sections.
 #![tactic(auto)]
 
 mod debug;

@@ -1,4 +1,21 @@
-//! A module as it is read: its sections in the order of the file, over the bytes of the input.
+//! A module as the reader returns it, for the crates that check and translate it: its sections in
+//! the order of the file.
+//!
+//! A `Form` borrows the input: names, bodies and data are slices of its bytes. Its view `module_of`
+//! is the plain module of which the grammar speaks. `counts` has the exact sizes of the index
+//! spaces.
+//!
+//! ```
+//! for payload in &form.payloads {
+//!     if let Payload::Memories(types) = payload { .. }
+//! }
+//! let counts = form.counts();
+//! let functions = counts.functions; // imports included
+//! ```
+//!
+//! Function bodies stay unread: `FunctionBody` has the locals, and the code as bytes.
+//!
+//! Read on: `form` and `types`; `form_reader` makes a `Form`, `form_rules` checks it.
 #![tactic(auto)]
 
 mod counts;

@@ -1,4 +1,19 @@
-//! Reads the sections of a module.
+//! The reader of modules in the binary format, for `wasm_form` and `module_environ`.
+//!
+//! `read_module` returns a module only where the bytes spell exactly that module. Each `ReadError`
+//! has its cause, and what the grammar spells is read, except custom sections of interface types.
+//!
+//! ```
+//! let refused = read_module(alloc, b"\0asm").err(); // Some(ReadError::Malformed)
+//! let form = read_module(alloc, bytes)?; // or Unsupported, TooLarge, OutOfMemory
+//! let sections = form.payloads.len();
+//! ```
+//!
+//! Input of 2^30 bytes or more is `TooLarge`. `read_input` leaves large sections in the input, and
+//! their entries are read again where they are walked.
+//!
+//! Read on: `module`, then `sections` and `vectors`; `wasm_spec` has the grammar, and `wasm_form`
+//! the public paths.
 #![tactic(auto)]
 
 mod code;

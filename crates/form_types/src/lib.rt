@@ -1,4 +1,21 @@
-//! The types of a module by ids: equal types have one id.
+//! Numbers for the types of a module, for the crates that check and intern them: equal types have
+//! one id.
+//!
+//! Two declared types have one `CoreTypeId` exactly where they are equal by group and place. Ids
+//! count distinct types from 0 on, in the order in which they first occur.
+//!
+//! ```
+//! let types = Types::build(alloc, &Validator::new(7), &form)?;
+//! let id = types.core_type_at_in_module(0);
+//! let group = types.rec_group_id_of(id);
+//! let members = types.members(group);
+//! ```
+//!
+//! `Types::build` needs a module that satisfies the listed rules. Groups are found in a hash map,
+//! whose seed depends on the bytes of the type section.
+//!
+//! Read on: `numbering`, `canonical`, `finishing`; `type_spec` defines equality, and `module_types`
+//! interns the types.
 #![tactic(auto)]
 
 mod below;

@@ -1,4 +1,21 @@
-//! Layouts of the objects of a garbage collector.
+//! Layouts of structs, arrays and exceptions for two garbage collectors, for compilers and
+//! runtimes.
+//!
+//! Offsets and sizes are exact, and refused exactly where they pass 32 bits. Fields do not overlap,
+//! and a subtype has the fields of its supertype at the same offsets.
+//!
+//! ```
+//! let layouts = DrcTypeLayouts;
+//! let pair = layouts.struct_layout(alloc, &ty)?;
+//! let first = pair.fields[0].offset;
+//! let array = layouts.array_layout(&elements);
+//! let size = array.size_for_len(10); // None past 32 bits
+//! ```
+//!
+//! The collectors differ in their headers: 24 bytes for `drc`, 8 for `null`. A layout takes one
+//! pass over the fields, and memory for their list.
+//!
+//! Read on: `collector`, `fields`, `array`, `kind`; `plan` makes the layouts of a whole module.
 #![tactic(auto)]
 
 mod array;

@@ -1,5 +1,21 @@
-//! The interned types of a module: each group once with its trampolines, then exception types and
-//! the startup type.
+//! The interned types of a module, for the translation: each group once, with the trampolines of
+//! its functions.
+//!
+//! Each growing call follows the definition of the interned list. After an error the builder is
+//! poisoned, and later growing calls return `Poisoned`. Two declared types have one interned index
+//! exactly where they are equal.
+//!
+//! ```
+//! let mut builder = ModuleTypesBuilder::new(alloc, &validator);
+//! let index = builder.intern_type(&types, id)?;
+//! let exception = builder.define_exception_type_for_tag(index)?;
+//! let list = builder.finish();
+//! let ty = list.get(index);
+//! ```
+//!
+//! To intern a group again changes nothing. Trampolines are found by seeded hashes.
+//!
+//! Read on: `builder`, `interning`, `list`; `type_spec/specs/Interned.antt` has the definition.
 #![tactic(auto)]
 
 mod builder;

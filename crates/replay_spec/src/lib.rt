@@ -1,7 +1,21 @@
-//! What the initialisers of a module leave in its globals, memories and tables, for the contracts
-//! of the crates above.
+//! What instantiation leaves in globals, memories and tables, as definitions with laws, for the
+//! contracts of the planner.
 //!
-//! The definitions stand in `specs/`, over plain records of numbers and lists.
+//! A phase has the pieces that segments write, in order. `content_of` is what they leave at a
+//! place, and `trap_of` is where they trap. The laws prove that planned images and segments leave
+//! the same, and trap at the same place.
+//!
+//! ```
+//! // clauses of `worked_values`:
+//! // offset_of (op.I32Const (pos 16) ∷ []) ≡ 16
+//! // const_value (op.I32Const (pos 10) ∷ op.I32Const (pos 6) ∷ op.I32Sub ∷ []) ≡ Some (I32 4)
+//! ```
+//!
+//! The definitions are over plain records of numbers and lists. Nothing here runs: each function is
+//! the proof of its clauses.
+//!
+//! Read on: `specs/Values.antt`, `specs/Phases.antt`, `specs/Images.antt`, `specs/Tables.antt`;
+//! `init_plan` makes the plans.
 #![tactic(auto)]
 
 mod global_laws;

@@ -1,4 +1,21 @@
-//! One number for each type over many modules: equal types of held modules have one engine index.
+//! Type indices of an engine, for hosts that link modules: equal types of held modules have one
+//! index.
+//!
+//! `register` gives each new group the least free indices, and `release` frees those that no other
+//! module has. A refused call leaves the registry as it was, and no index changes while its module
+//! is held.
+//!
+//! ```
+//! let mut registry = TypeRegistry::new(alloc, 1_000_000);
+//! let key = registry.register(&types)?;
+//! let index = registry.index_of(key, ModuleInternedTypeIndex::new(0));
+//! let equal = registry.same(key, i, other, j);
+//! registry.release(key)?;
+//! ```
+//!
+//! `release` needs no memory. `docs/MEASURED.md` has the time of a registration.
+//!
+//! Read on: `registry`, `groups`, `planning`; `import_match` links by these indices.
 #![tactic(auto)]
 
 mod error;

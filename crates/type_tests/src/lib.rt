@@ -1,4 +1,7 @@
-//! Tests of the types of modules by ids, on bytes.
+//! Tests of type ids on bytes: large modules whose types differ late, and a wide group.
+//!
+//! They call `Types::build` of `form_types` through `wasm_form`. `bytes` makes the modules, and
+//! `numbers` has the tests.
 #![tactic(auto)]
 
 #[cfg(test)]

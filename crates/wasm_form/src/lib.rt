@@ -1,4 +1,21 @@
-//! Modules in the binary format: what reads them, what checks them, and what they are as they were read.
+//! The public paths of the reader and the check, for users who want a module read and checked
+//! without a plan.
+//!
+//! The crate has no code of its own. It exports the calls and types of `form_data`, `form_reader`,
+//! `form_rules` and `form_types`, with the contracts that they have there.
+//!
+//! ```
+//! let form = read_module(alloc, bytes)?;
+//! check(alloc, &form)?;
+//! let types = Types::build(alloc, &Validator::new(0), &form)?;
+//! let declared = types.core_type_count_in_module();
+//! ```
+//!
+//! A form borrows the input. A check needs memory for the index spaces and types of the module
+//! until it returns.
+//!
+//! Read on: `form_reader` for what is read, `form_rules` for what is checked; `translate` makes a
+//! plan of the same bytes.
 #![tactic(auto)]
 
 pub use entity_map::OutOfMemory;

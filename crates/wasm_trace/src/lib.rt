@@ -1,4 +1,21 @@
-//! Visits of the type indices that stand in types: its edges to other types.
+//! Visits of the references in types, for code that renumbers or compares types.
+//!
+//! A trace visits each edge in a fixed order and stops at the first `Err`. Canonical forms are
+//! equal exactly where the types are alike except for references that become equal.
+//!
+//! ```
+//! let mut count = 0u32;
+//! func.trace(&mut |edge: EngineOrModuleTypeIndex| -> Result<(), ()> {
+//!     count = count.wrapping_add(1);
+//!     Ok(())
+//! })?;
+//! ```
+//!
+//! A visit needs no memory. After an error of `trace_mut`, the edges that were written keep their
+//! new values.
+//!
+//! Read on: `trace` has the trait, `lists` traces of slices; `type_registry` compares types by
+//! canonical forms.
 #![tactic(auto)]
 
 mod aggregate;
