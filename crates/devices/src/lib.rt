@@ -1,5 +1,19 @@
-//! Where a run's bytes come from and where they go: sources, sinks, four of them in memory, and the
-//! loops over them.
+//! Sources and sinks of bytes, for the program and for tests that make reads and writes fail.
+//!
+//! `read_all` and `write_all` lose no byte, whatever fails: the store has what was read, and a sink
+//! has a prefix of the text. Failures are counted, so a contract can name them.
+//!
+//! ```
+//! let mut store = Vec::new(alloc);
+//! read_all(&mut SliceSource::new(bytes), &mut store, 1_073_741_824)?;
+//! let mut sink = CountSink::new();
+//! write_all(&mut sink, &store)?;
+//! let total = sink.total();
+//! ```
+//!
+//! A `ListSource` and a `ListSink` move at most so many bytes a call, and fail at the listed calls.
+//!
+//! Read on: `device` has the traits, `reading` and `writing` the loops; `translate` runs over both.
 #![tactic(auto)]
 
 mod calls;

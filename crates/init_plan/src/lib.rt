@@ -1,4 +1,21 @@
-//! What a module's initialisers become: images, and segments that are left to be written.
+//! The plan of a module's initialisers, for the planner: images of memories and tables, and the
+//! segments that startup writes.
+//!
+//! Each finalize call follows its rule, and segments outside images keep their order. The plan
+//! agrees with the module: replayed over any imports, it leaves what the module's segments leave,
+//! and traps where they trap.
+//!
+//! ```
+//! translation.finalize_memory_init(alloc, &tunables, 4096, 1_048_576, &mut types)?;
+//! translation.finalize_table_init(alloc, &tunables, &mut types)?;
+//! let startup = &translation.module.startup;
+//! let align = translation.data_align; // None without images of memories
+//! ```
+//!
+//! The calls may come in either order. After an error the translation may only be dropped.
+//!
+//! Read on: `translation` has the fields, `memory_startup` and `table_init` the calls; `run_laws`
+//! proves what a plan can cost.
 #![tactic(auto)]
 
 mod debug_info;

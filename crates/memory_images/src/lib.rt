@@ -1,5 +1,21 @@
-//! The images of a module's memories, by the definitions of `replay_spec`: which ranges of a memory
-//! segments write, whether they become images, and the images' bytes.
+//! Copy-on-write images of memories for `init_plan`: whether data segments become images, and the
+//! bytes of these.
+//!
+//! `plan_images` returns images exactly where the image rule of `replay_spec` holds. They have the
+//! bytes that the segments leave. `TooLarge` comes only where the images, and the bytes beside
+//! them, pass 32 bits.
+//!
+//! ```
+//! let settings = ImageSettings { enabled: true, page_size: 4096, max_image: 1_048_576 };
+//! let images = plan_images(alloc, settings, &memories, 0, &segments, 0)?;
+//! // [16, 17) of segment 0, [17, 18) of segment 1, [18, 19) of segment 0
+//! let ranges = written_ranges(alloc, &[(16, 3), (17, 1)])?;
+//! ```
+//!
+//! Overlapping segments are swept in one pass, with a heap of those that are active. Images have at
+//! most twice the module's bytes, and `max_image` bytes and two pages for each defined memory.
+//!
+//! Read on: `rule`, `written`, `image`; `replay_spec/specs/Images.antt` has the rule.
 #![tactic(auto)]
 
 mod error;

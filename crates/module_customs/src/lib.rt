@@ -1,4 +1,18 @@
-//! What the custom sections of a module give: names, branch hints, and whether there is debug information.
+//! Names, branch hints and signs of debug information of a module, for `module_environ`.
+//!
+//! `kept_names` and `kept_hints` return what the custom sections give, in the order of the file. A
+//! fault in such a section ends its names, or drops its hints, and refuses no module.
+//!
+//! ```
+//! let source = Source::Form(&form);
+//! let names = kept_names(alloc, source, true)?; // true: also names of locals
+//! let hints = kept_hints(alloc, source)?;
+//! let debug = has_debug_section(source);
+//! ```
+//!
+//! Names stay slices of the input. The only error is `OutOfMemory`.
+//!
+//! Read on: `names`, `hints`, `debug`; `custom_sections` reads the contents of a section.
 #![tactic(auto)]
 
 mod debug;

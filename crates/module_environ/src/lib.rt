@@ -1,4 +1,23 @@
-//! The translation of a module: bytes that are read, checked and translated.
+//! The translation of a module, for the planner: bytes in, a checked record with interned types
+//! out.
+//!
+//! A translation is that of the one module which the bytes spell, and this module satisfies the
+//! listed rules. Each error has its cause, and a module that satisfies the rules is translated,
+//! unless memory runs out.
+//!
+//! ```
+//! let mut types = ModuleTypesBuilder::new(alloc, &validator);
+//! let index = StaticModuleIndex::new(0);
+//! let environment = ModuleEnvironment::new(alloc, &tunables, &validator, &mut types, index)?;
+//! let translation = environment.translate(alloc, bytes)?;
+//! let functions = translation.module.functions.len();
+//! ```
+//!
+//! After an error that is not `OutOfMemory` the builder is unchanged. Bodies and data stay slices
+//! of the input.
+//!
+//! Read on: `translating`, then `sections`; docs/ARCHITECTURE.md names the steps, and `init_plan`
+//! has the next one.
 #![tactic(auto)]
 
 mod code;

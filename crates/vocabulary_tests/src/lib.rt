@@ -1,4 +1,8 @@
-//! Tests of single calls of the vocabulary: maps, memories, types, visits and constant expressions.
+//! Tests of single calls that the planner does not make: maps, paged memories, types, traces and
+//! constant expressions.
+//!
+//! Each file tests the crates that its imports name: `entity_map`, `paged_memory`, `wasm_types`,
+//! `wasm_trace` and `wasm_convert`.
 #![tactic(auto)]
 
 #[cfg(test)]

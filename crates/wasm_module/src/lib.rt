@@ -1,4 +1,21 @@
-//! The record of a translated module.
+//! The record of a translated module, for the translation that fills it and for compilers that read
+//! it.
+//!
+//! A contract sees the record as one plain value. Index conversions between an index space and its
+//! defined part are exact, and imports come first in each space.
+//!
+//! ```
+//! let mut module = Module::new(alloc, StaticModuleIndex::new(0))?;
+//! let function = module.push_function(signature)?;
+//! let imported = module.is_imported_function(function); // false
+//! let defined = module.defined_func_index(function); // the first defined function
+//! ```
+//!
+//! Conversions of indices take constant time, except `owned_memory_index`, which counts the
+//! memories before. `import_position` goes through the imports up to the one it finds.
+//!
+//! Read on: `module` has the fields; `module_environ` fills them, `init_plan` plans how memories
+//! and tables begin.
 #![tactic(auto)]
 
 mod defined;
