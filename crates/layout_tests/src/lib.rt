@@ -1,4 +1,7 @@
-//! Tests of single calls: layouts of objects, the table of structs, and contexts.
+//! Tests of single calls of `gc_layout`, `vm_structs` and `vm_offsets`.
+//!
+//! `objects` has layouts of objects, `structs` the table of structs at both pointer sizes, and
+//! `contexts` the layout of a context.
 #![tactic(auto)]
 
 #[cfg(test)]

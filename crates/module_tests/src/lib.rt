@@ -1,5 +1,7 @@
-//! Tests of single calls on records: the record of a module, the list of its types, and the builder
-//! of that list.
+//! Tests of single calls on records: the module record, the list of interned types, and its
+//! builder.
+//!
+//! They call `wasm_module` and `module_types`, also in ways that the planner does not.
 #![tactic(auto)]
 
 #[cfg(test)]

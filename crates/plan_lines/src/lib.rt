@@ -1,4 +1,20 @@
-//! The lines of a plan.
+//! The lines of a plan's text, one function for each kind of line, for `plan_text`.
+//!
+//! Each call appends exactly the bytes that its definition in `specs/` says. docs/FORMAT.md
+//! explains the lines.
+//!
+//! ```
+//! let mut text = Text::new(alloc);
+//! append_types(&mut text, &plan.types)?;
+//! append_start(&mut text, plan.translation.start_func)?;
+//! let bytes = text.into_bytes();
+//! ```
+//!
+//! The only error is `OutOfMemory`; the text may then end anywhere. A line takes memory for its
+//! bytes.
+//!
+//! Read on: `text`, then a file for each kind of line, such as `memory_lines`; `plan_text` puts
+//! lines in order.
 #![tactic(auto)]
 
 mod context_lines;

@@ -1,4 +1,21 @@
-//! What each import of a planned module is given by the exports of another.
+//! Links of two plans, for `planner_c`: what each import of one module gets from the exports of
+//! another.
+//!
+//! Each import has its own answer: the number of an export, `Missing`, or the first rule that the
+//! export breaks. All imports are `Given` exactly where a linker resolves them, to the same
+//! numbers.
+//!
+//! ```
+//! let answers = link_plans(alloc, &exporter, "env", &importer)?;
+//! if let Some(ImportAnswer::Mismatch(rule)) = answers.first() {
+//!     let line = mismatch_line(*rule); // the first rule that the export breaks
+//! }
+//! ```
+//!
+//! A call registers the types of both modules in a registry of its own, and drops it. The only
+//! error is `OutOfMemory`.
+//!
+//! Read on: `linking`, `answer`, `laws`; `import_match` has linkers that live longer.
 #![tactic(auto)]
 
 mod answer;

@@ -1,4 +1,19 @@
-//! A plan as tables, whose rows C can read.
+//! A plan as tables of numbers and bytes, for `planner_c`, whose rows C, Rust and the page read.
+//!
+//! `fill_record` puts every field of the plan into the record, as `Tells` in `specs/` says. Bytes
+//! that the plan has from the module stay in the module.
+//!
+//! ```
+//! fill_record(alloc, &mut plan, &mut out)?;
+//! let memories = out.kinds.memories; // imported ones first
+//! let images = out.memories.images;
+//! let regions = out.regions;
+//! ```
+//!
+//! Tables are copies in memory that the caller frees. The plan has no bytes of runtime data after
+//! the call, since the record owns them.
+//!
+//! Read on: `record`, `rows`, `filling`; `embed/README.md` explains the tables for callers.
 #![tactic(auto)]
 
 mod bodies;

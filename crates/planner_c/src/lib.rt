@@ -1,4 +1,21 @@
-//! The planner for C: a plan as tables, its text, or both; and two modules linked.
+//! The planner for C: four calls that fill records with a plan, its text, both, or the links of two
+//! modules.
+//!
+//! Each call returns 0, 1, 2 or 5, and each status has its cause. A record is filled as by
+//! `plan_tables`, and a text is that of the program.
+//!
+//! ```text
+//! bobbinazure_options options = bobbinazure_options_init();
+//! bobbinazure_plan plan = bobbinazure_plan_init();
+//! uint32_t status = bobbinazure_make_plan(bytes, len, &options, &plan); // 0: a plan
+//! bobbinazure_plan_free(&plan);
+//! ```
+//!
+//! The caller keeps the module's bytes while it uses a record, and frees the record once.
+//! `bobbinazure_make_plan_and_text` plans only once.
+//!
+//! Read on: `planning`, `linking`, `options`; `embed/include/bobbinazure.h` is the header, and
+//! `embed/README.md` its manual.
 #![tactic(auto)]
 
 mod linking;

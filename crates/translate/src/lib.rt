@@ -1,4 +1,21 @@
-//! The planner as one call: bytes in, a plan or a refusal out.
+//! The planner as two calls, for programs: `translate_module` makes a plan of bytes, and `run` also
+//! reads and writes.
+//!
+//! A plan is that of the one module which the bytes spell, by the options. Each refusal has its
+//! cause, and valid bytes have a plan, unless memory runs out. docs/THEOREM.md has the contract of
+//! `run` in full.
+//!
+//! ```
+//! let plan = translate_module(alloc, &tunables, Collector::Drc, 8, 4096, 1_048_576, bytes)?;
+//! let text = plan_text(alloc, &plan)?;
+//! // or all at once, over a source and a sink:
+//! let status = run(alloc, &words, &mut source, &mut store, &mut sink).into_status();
+//! ```
+//!
+//! Input of 2^30 bytes or more is `TooLarge`. No clause bounds time or memory; docs/MEASURED.md has
+//! measurements.
+//!
+//! Read on: `translating`, `running`, `status`; `module_environ` and `init_plan` do the work.
 #![tactic(auto)]
 
 mod answering;

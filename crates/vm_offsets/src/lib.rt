@@ -1,4 +1,20 @@
-//! The layout of an instance's context.
+//! The layout of an instance's context, for compilers and runtimes: the offset of each entry, in
+//! bytes.
+//!
+//! Entries are those of one table, in its order. They do not overlap, they end within the context,
+//! and the regions add up to its size. `OffsetOverflow` comes exactly where the size passes 32
+//! bits.
+//!
+//! ```
+//! let offsets = VMOffsets::new(8u8, &translation.module)?;
+//! let first = offsets.imported_functions().at(FuncIndex::new(0));
+//! let memories = offsets.memories().begin();
+//! let size = offsets.size_of_vmctx();
+//! ```
+//!
+//! `new` computes all entries once. Later calls take constant time and no memory.
+//!
+//! Read on: `table`, `accessors`, `regions`; `specs/Context.antt` defines the table.
 #![tactic(auto)]
 
 mod accessors;
