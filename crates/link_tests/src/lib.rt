@@ -1,4 +1,7 @@
-//! Programs of modules that are translated, registered and linked.
+//! Tests of whole programs: modules are translated, registered and linked by `type_registry`,
+//! `import_match` and `plan_link`.
+//!
+//! `two_modules` has a program of two modules, `plans` two plans that are linked.
 #![tactic(auto)]
 
 #[cfg(test)]

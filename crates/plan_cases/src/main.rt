@@ -1,5 +1,18 @@
-//! Runs the planner over the cases of files, and says which of them gave something else than is
-//! written there.
+//! A program that runs the planner over the cases of text files, for tests of the whole.
+//!
+//! It reports each case whose outcome differs from what its file wants, and counts cases and
+//! failures. The cases are in `data/`, and the folder's README explains their lines.
+//!
+//! ```text
+//! case words that name no command: Plan
+//! words Plan
+//! status 2
+//! no-text
+//! ```
+//!
+//! Cases run one after another, and each names the words, bytes and devices of its run.
+//!
+//! Read on: `case`, `given`, `expected`, `comparing`; docs/CONTRIBUTING.md says how to add a case.
 #![tactic(auto)]
 
 mod case;

@@ -1,5 +1,18 @@
-//! Laws that the bytes and the options determine what is answered: the plan, or the cause of a
-//! refusal. Each function is the proof of its clauses, and changes nothing when it is run.
+//! Laws of plans and refusals, for readers who rely on reproducible answers of `translate`.
+//!
+//! Two plans of the same bytes with the same options have one text and are the same. Bytes are
+//! refused for one cause, except for the pairs that `MayBothStand` names, where memory does not run
+//! out.
+//!
+//! ```
+//! determined_law(&plan, &other); // no code: the clauses are the theorem
+//! runs_law(&words, &plan, &other);
+//! refusals_law();
+//! ```
+//!
+//! Each function is the proof of its clauses, and changes nothing when it is run.
+//!
+//! Read on: `laws`; `translate` has the calls, `run_laws` what plans leave.
 #![tactic(auto)]
 
 mod kept;

@@ -1,4 +1,6 @@
-//! Tests of the runner of plans: modules from their bytes to what is laid of them.
+//! Tests of `plan_run`: modules from their bytes to the bytes, cells and values that a run leaves.
+//!
+//! `rows` lists small modules and what is seen of them, and `laying` plans and runs one.
 #![tactic(auto)]
 
 #[cfg(test)]

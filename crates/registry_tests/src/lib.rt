@@ -1,4 +1,6 @@
-//! Tests of registrations: which indices types get, what is live, and what is refused.
+//! Tests of `type_registry`: which indices types get, which are live, and what is refused.
+//!
+//! `rows` lists registrations and releases, `modules` and `lists` what is registered.
 #![tactic(auto)]
 
 #[cfg(test)]

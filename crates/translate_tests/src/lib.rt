@@ -1,4 +1,7 @@
-//! Calls of the planner that no case of `plan_cases` makes.
+//! Tests of planner calls that no case of `plan_cases` makes: refused allocations, failing devices,
+//! words, and many types.
+//!
+//! `memory_refused` has runs in which an allocation fails.
 #![tactic(auto)]
 
 #[cfg(test)]

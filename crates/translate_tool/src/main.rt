@@ -1,4 +1,17 @@
-//! The program: real words, standard input and standard output.
+//! The program: `run` of `translate` over standard input and standard output.
+//!
+//! Its exit status is that of the run, from 0 to 5, with the cause that the contract of
+//! `run_over_standard` names. Status 6 says that the system does not give the words.
+//!
+//! ```text
+//! dist/translate plan --cow --lazy-tables < examples/linked.wasm
+//! dist/translate generate 1000
+//! ```
+//!
+//! docs/MEASURED.md has times and peak memory for large modules.
+//!
+//! Read on: `running`, `adapters`; docs/FORMAT.md explains the output, and `command_words` the
+//! words.
 #![tactic(auto)]
 
 ghost use Rattle.std.specs.Prelude.{◌≡◌, ◌≤◌, ◌↔◌, None, map, string_bytes};
