@@ -29,7 +29,7 @@ IsCustom p = (name bytes : List ℕ) × (p ≡ Custom name bytes)
 
 -- ---- what is read is a custom section
 
-custom_is : (bytes rest : List ℕ) (p : Payload) → custom_section.read bytes ≡ Ok (p, rest) → IsCustom p
+pub custom_is : (bytes rest : List ℕ) (p : Payload) → custom_section.read bytes ≡ Ok (p, rest) → IsCustom p
 unfolding custom_section
 custom_is bytes rest p e = let f = custom_section.agrees.found bytes p rest e in by_front f.0 f.2 where
   by_test : (test : Bool) (front : List ℕ) → (part.choose test (part.sized (part.◌>>=◌ name custom_taken)) part.nothing).spells front p → IsCustom p
@@ -73,7 +73,7 @@ was_not_read (Err f) e = (f, refl)
 -- ---- a run, as a loop reads it
 
 -- a custom section is read as any section is
-read_alike : (place next : ℕ) (bytes : List ℕ) → IsAtCustom bytes true → (section place next).read bytes ≡ custom_section.read bytes
+pub read_alike : (place next : ℕ) (bytes : List ℕ) → IsAtCustom bytes true → (section place next).read bytes ≡ custom_section.read bytes
 unfolding section custom_section
 read_alike place next bytes is =
     let id : bytes ≡ 0 ∷ drop 1 bytes = (starts_is Decides-eqb bytes (0 ∷ []) (starts_with nat_eq bytes (0 ∷ [])) refl).0 is in

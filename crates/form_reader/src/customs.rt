@@ -59,7 +59,7 @@ impl<'d> Cursor<'d> {
 
     /// A custom section.
     #[tactic(auto, unfolding(crate::specs::SectionRows::custom_section))]
-    fn custom(&mut self) -> Result<Custom<'d>, ReadError>
+    pub fn custom(&mut self) -> Result<Custom<'d>, ReadError>
         ensures { Reads custom_section.read custom_of self.old.rest.now self.new.rest.now result }
     {
         match self.byte()? {

@@ -28,7 +28,7 @@ pub trait TakeGroups {
 
 /// Drops the groups.
 #[derive(Drop)]
-pub(crate) struct Nobody;
+pub struct Nobody;
 
 impl TakeGroups for Nobody {
     ghost took = { λ nobody groups. Unit {0} };

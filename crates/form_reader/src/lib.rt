@@ -45,12 +45,15 @@ mod type_indices;
 mod value_types;
 mod vectors;
 
+pub use contents::next_order;
+pub use cursor::Cursor;
 pub use customs::InputCustoms;
 pub use error::ReadError;
-pub use group_takers::TakeGroups;
+pub use group_takers::{Nobody, TakeGroups};
 pub use input::{InputEntries, InputForm, InputPart, InputSection};
 pub use input_vectors::{InputEntry, InputVector};
 pub use laws::spelling_is_unique;
-pub use module::{MAX_MODULE_SIZE, read_input, read_module};
+pub use module::{HEADER, MAX_MODULE_SIZE, read_input, read_module};
 pub use type_bytes::type_section_bytes;
 pub use type_indices::{DefinedFunction, DefinedTag};
+pub use vectors::Entry;

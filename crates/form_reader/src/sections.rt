@@ -19,7 +19,7 @@ impl<'d> Cursor<'d> {
     /// A section that is no custom one and stands at a place of the input, where the next one has
     /// at least the order `next`.
     #[tactic(auto, unfolding(crate::specs::SectionRows::section))]
-    fn section<T: TakeGroups>(
+    pub fn section<T: TakeGroups>(
         &mut self,
         alloc: Global,
         place: usize,

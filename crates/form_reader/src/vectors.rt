@@ -21,6 +21,7 @@ pub trait Entry<'d> {
 
     ghost view: { Self.Value → Seen };
 
+    /// The entry that the bytes spell next.
     fn read(alloc: Global, cursor: &mut Cursor<'d>) -> Result<Self::Value, ReadError>
         ensures { Reads form view cursor.old.rest.now cursor.new.rest.now result };
 }
