@@ -168,7 +168,7 @@ group_wide (b ∷ bytes) g s = by_first (b == 0x4E) s where
       let n = sub_type_wide b s.front s.value s.is_first in
       omega (arith, n, ap (total member) s.is_second.1, ap length s.parts, length-append s.front s.back)
 
-total_members : (ts : List (SubType UnpackedIndex UnpackedIndex)) → total member ts ≡ length ts + total width ts
+pub total_members : (ts : List (SubType UnpackedIndex UnpackedIndex)) → total member ts ≡ length ts + total width ts
 total_members [] = refl
 total_members (t ∷ ts) = let others = total_members ts in omega (arith, others)
 
