@@ -4,8 +4,8 @@
 //! its name in C, a field's with its name in C where that is another one, and the rest is its
 //! comment there. A `u8` whose comment begins with `Whether` is a `bool` in Rust.
 
-/// How many entities of each kind there are, imported ones among them, and how many are imported:
-/// `bobbinazure_entities`.
+/// How many entities of each kind there are, imported ones among them, and how many are
+/// imported: `bobbinazure_entities`.
 #[repr(C)]
 #[derive(Clone, Copy)]
 pub struct Entities {

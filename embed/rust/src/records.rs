@@ -31,13 +31,15 @@ pub(crate) struct ElementItemsRecord {
 pub(crate) struct PlanRecord {
     /// Why the module is refused, from [`numbers::MALFORMED`](crate::numbers::MALFORMED) on; 0 of a plan.
     pub(crate) refusal: u32,
-    /// Of an invalid module the rule that it breaks, from 1 to 10; of an unsupported one what is not taken, from [`numbers::COMPONENT`](crate::numbers::COMPONENT) on.
+    /// Of an invalid module the rule that it breaks, from 1 to 10; of an unsupported one what is
+    /// not taken, from [`numbers::COMPONENT`](crate::numbers::COMPONENT) on.
     pub(crate) refusal_detail: u32,
     /// The line of the refusal, as the program prints it. It is never freed.
     pub(crate) refusal_line: List<u8>,
     /// How many entities there are.
     pub(crate) entities: Entities,
-    /// When the startup function runs, from [`numbers::STARTUP_NONE`](crate::numbers::STARTUP_NONE) on: never, always, or where a memory does not begin as its image.
+    /// When the startup function runs, from [`numbers::STARTUP_NONE`](crate::numbers::STARTUP_NONE) on: never, always, or where
+    /// a memory does not begin as its image.
     pub(crate) startup: u32,
     /// The interned type of the startup function; 0 where there is none.
     pub(crate) startup_type: u32,
@@ -108,7 +110,8 @@ pub(crate) struct PlanRecord {
     pub(crate) passive_segments: List<PassiveSegment>,
     /// The defined globals that begin as a known value.
     pub(crate) global_values: List<GlobalValue>,
-    /// The defined globals that begin as the value of an expression, each by its number among the defined ones.
+    /// The defined globals that begin as the value of an expression, each by its number among the
+    /// defined ones.
     pub(crate) expressed_globals: List<u32>,
     /// Of each of `expressed_globals`.
     pub(crate) global_expressions: ExpressionsRecord,
@@ -234,7 +237,8 @@ pub(crate) struct Text {
 pub(crate) struct ImportAnswer {
     /// From [`numbers::GIVEN`](crate::numbers::GIVEN) on: 0 given, 1 missing, 2 a mismatch.
     pub(crate) answer: u32,
-    /// Where it is given, the number of the export, from 0 on; of a mismatch the rule that it breaks, from [`numbers::MISMATCH_KIND`](crate::numbers::MISMATCH_KIND) on; else 0.
+    /// Where it is given, the number of the export, from 0 on; of a mismatch the rule that it
+    /// breaks, from [`numbers::MISMATCH_KIND`](crate::numbers::MISMATCH_KIND) on; else 0.
     pub(crate) detail: u32,
     /// The text of a mismatch, else empty. It is never freed.
     pub(crate) line: List<u8>,

@@ -7,10 +7,12 @@ use crate::list::List;
 #[derive(Clone, Copy, Debug, PartialEq, Eq, Hash)]
 pub struct Options {
     /// Whether memories begin as images, where the data segments allow it.
-    /// A module can then ask for `max_image` bytes with each memory that it defines, in some fifteen bytes of its own.
+    /// A module can then ask for `max_image` bytes with each memory that it defines, in some
+    /// fifteen bytes of its own.
     pub cow: bool,
     /// Whether tables begin as images, as far as their elements allow it.
-    /// A module can then ask for 1,048,576 cells of four bytes with each table that it defines, in ten bytes of its own.
+    /// A module can then ask for 1,048,576 cells of four bytes with each table that it defines, in
+    /// ten bytes of its own.
     pub lazy_tables: bool,
     /// Whether hints of branches are read.
     pub branch_hints: bool,
@@ -28,7 +30,8 @@ pub struct Options {
     pub max_image: u64,
 }
 
-/// How many entities of each kind there are, imported ones among them, and how many are imported.
+/// How many entities of each kind there are, imported ones among them, and how many are
+/// imported.
 #[repr(C)]
 #[derive(Clone, Copy, Debug, PartialEq, Eq, Hash, Default)]
 pub struct Entities {
@@ -114,7 +117,8 @@ pub struct Span {
 #[repr(C)]
 #[derive(Clone, Copy, Debug, PartialEq, Eq, Hash, Default)]
 pub struct Value {
-    /// What it is, from [`numbers::I32`](crate::numbers::I32) on: 0 to 4 a number or a vector, 5 a reference, 6 and 7 a packed integer.
+    /// What it is, from [`numbers::I32`](crate::numbers::I32) on: 0 to 4 a number or a vector, 5 a reference, 6 and 7 a
+    /// packed integer.
     pub kind: u8,
     /// Whether the reference may be null.
     pub nullable: bool,
@@ -196,7 +200,8 @@ pub struct Segment {
     pub memory: u32,
     /// The runtime data that it writes.
     pub runtime: u32,
-    /// How `offset` gives its address, from [`numbers::AT_BYTE`](crate::numbers::AT_BYTE) on: 0 as a planned address, 1 as a constant, 2 as a global, 3 not at all.
+    /// How `offset` gives its address, from [`numbers::AT_BYTE`](crate::numbers::AT_BYTE) on: 0 as a planned address, 1 as
+    /// a constant, 2 as a global, 3 not at all.
     pub kind: u32,
     /// The address in bytes, or the index of the global that holds it; 0 where another expression gives it.
     pub offset: u64,
@@ -244,7 +249,8 @@ pub struct Items {
 pub struct Locals {
     /// How many locals.
     pub count: u32,
-    /// Their type. A type of the module is named by the type section: `list` is [`numbers::OF_SECTION`](crate::numbers::OF_SECTION), and `heap` is [`numbers::HEAP_DECLARED`](crate::numbers::HEAP_DECLARED).
+    /// Their type. A type of the module is named by the type section: `list` is
+    /// [`numbers::OF_SECTION`](crate::numbers::OF_SECTION), and `heap` is [`numbers::HEAP_DECLARED`](crate::numbers::HEAP_DECLARED).
     pub value: Value,
 }
 
@@ -378,7 +384,8 @@ pub struct LayoutField {
 #[repr(C)]
 #[derive(Clone, Copy, Debug, PartialEq, Eq, Hash, Default)]
 pub struct Type {
-    /// What it is, from [`numbers::ARRAY`](crate::numbers::ARRAY) on: 0 an array, 1 a function, 2 a struct, 3 a continuation, 4 an exception.
+    /// What it is, from [`numbers::ARRAY`](crate::numbers::ARRAY) on: 0 an array, 1 a function, 2 a struct, 3 a
+    /// continuation, 4 an exception.
     pub kind: u8,
     /// Whether it can have no subtypes.
     pub is_final: bool,
