@@ -1,3 +1,4 @@
+mod PassedZeros
 mod Lists
 mod Sweeping
 mod Covering

@@ -5,3 +5,4 @@ pub mod Image
 pub mod Images
 pub mod Views
 pub mod Layout
+pub mod Zeros

@@ -31,6 +31,7 @@ mod settings;
 mod span;
 mod sweep;
 mod written;
+mod zeros;
 
 pub use error::ImageError;
 pub use image::Image;

@@ -8,6 +8,7 @@ ghost use Rattle.memory_images.specs.Ranges.{AreWritten};
 
 use crate::laid::Laid;
 use crate::written::{Written, written_ranges};
+use crate::zeros::{without_first_zeros, without_last_zeros};
 use entity_map::OutOfMemory;
 use std::alloc::Global;
 
@@ -31,7 +32,9 @@ fn first_in(bytes: &[u8]) -> Option<usize>
     ensures nonzero { IfSome result (λ i. slice_index bytes.now i ≢ 0) }
     ensures before { IfSome result (λ i. (k : ℕ) → k < i → slice_index bytes.now k ≡ 0) }
 {
-    bytes.iter().position(|byte| *byte != 0)
+    let rest = without_first_zeros(bytes);
+    let place = rest.iter().position(|byte| *byte != 0)?;
+    Some(bytes.len() - rest.len() + place)
 }
 
 fn last_in(bytes: &[u8]) -> Option<usize>
@@ -40,7 +43,7 @@ fn last_in(bytes: &[u8]) -> Option<usize>
     ensures nonzero { IfSome result (λ i. slice_index bytes.now i ≢ 0) }
     ensures behind { IfSome result (λ i. (k : ℕ) → i < k → k < length bytes.now → slice_index bytes.now k ≡ 0) }
 {
-    bytes.iter().rposition(|byte| *byte != 0)
+    without_last_zeros(bytes).iter().rposition(|byte| *byte != 0)
 }
 
 /// What of laid bytes stands in a range.

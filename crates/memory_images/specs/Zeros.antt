@@ -1,0 +1,14 @@
+-- Bytes of which zeros at one end are left out.
+use Rattle.std.specs.Prelude.{◌≡◌, ℕ, List, ◌++◌, All}
+
+-- zeros, and then these
+pub record ZerosAnd (bytes rest : List ℕ) : Type 0 where
+  pub zeros : List ℕ
+  pub parts : bytes ≡ zeros ++ rest
+  pub are_zero : All (λ b. b ≡ 0) zeros
+
+-- these, and then zeros
+pub record AndZeros (bytes front : List ℕ) : Type 0 where
+  pub zeros : List ℕ
+  pub parts : bytes ≡ front ++ zeros
+  pub are_zero : All (λ b. b ≡ 0) zeros
