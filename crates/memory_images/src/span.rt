@@ -43,7 +43,9 @@ fn last_in(bytes: &[u8]) -> Option<usize>
     ensures nonzero { IfSome result (λ i. slice_index bytes.now i ≢ 0) }
     ensures behind { IfSome result (λ i. (k : ℕ) → i < k → k < length bytes.now → slice_index bytes.now k ≡ 0) }
 {
-    without_last_zeros(bytes).iter().rposition(|byte| *byte != 0)
+    without_last_zeros(bytes)
+        .iter()
+        .rposition(|byte| *byte != 0)
 }
 
 /// What of laid bytes stands in a range.
