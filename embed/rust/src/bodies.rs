@@ -44,17 +44,39 @@ impl<'d> Plan<'d> {
     /// # Ok::<(), Box<dyn std::error::Error>>(())
     /// ```
     pub fn bodies(&self) -> impl ExactSizeIterator<Item = Body<'_>> {
-        let mut at = self.record.code_section_offset as usize;
-        self.record.bodies.as_slice().iter().enumerate().map(move |(place, row)| {
-            if place == 0 {
-                at = behind_number(self.module, at);
-            }
-            let begin = behind_number(self.module, at);
-            let code = row.code.as_slice();
-            let operators = code.as_ptr() as usize - self.module.as_ptr() as usize;
-            at = operators + code.len();
-            Body { range: begin..at, operators, code, locals: part(self.record.locals.as_slice(), row.locals), plan: self }
-        })
+        (0..self.record.bodies.as_slice().len()).map(|place| self.body_at(place))
+    }
+
+    /// The body of a function, by its index among all functions; none of an imported one. It takes no walk over the others.
+    ///
+    /// ```
+    /// # let bytes = std::fs::read(concat!(env!("CARGO_MANIFEST_DIR"), "/../../examples/linked.wasm"))?;
+    /// # let plan = bobbinazure::Plan::new(&bytes, &Default::default())?;
+    /// assert_eq!(plan.body(1).unwrap().range, plan.bodies().nth(1).unwrap().range);
+    /// assert!(plan.body(2).is_none());
+    /// # Ok::<(), Box<dyn std::error::Error>>(())
+    /// ```
+    pub fn body(&self, function: u32) -> Option<Body<'_>> {
+        let place = u64::from(function).checked_sub(self.record.entities.imported_functions)? as usize;
+        (place < self.record.bodies.as_slice().len()).then(|| self.body_at(place))
+    }
+
+    /// Where a code begins in the module.
+    fn place_in_module(&self, code: &[u8]) -> usize {
+        code.as_ptr() as usize - self.module.as_ptr() as usize
+    }
+
+    /// The body of this number. Its size stands behind the body before it, or behind the number of bodies.
+    fn body_at(&self, place: usize) -> Body<'_> {
+        let rows = self.record.bodies.as_slice();
+        let before = match place.checked_sub(1) {
+            Some(previous) => self.place_in_module(rows[previous].code.as_slice()) + rows[previous].code.as_slice().len(),
+            None => behind_number(self.module, self.record.code_section_offset as usize),
+        };
+        let (begin, code) = (behind_number(self.module, before), rows[place].code.as_slice());
+        let operators = self.place_in_module(code);
+        let locals = part(self.record.locals.as_slice(), rows[place].locals);
+        Body { range: begin..operators + code.len(), operators, code, locals, plan: self }
     }
 
     /// The type of locals: a type of the type section is the interned one.

@@ -31,7 +31,89 @@ const WORDS: [&str; 22] = [
     "any.convert_extern",
 ];
 
+/// An operator of a constant expression with its immediates, to be matched on. Floats and vectors are their bits.
+#[derive(Clone, Copy, Debug, PartialEq, Eq, Hash)]
+pub enum ConstOp {
+    /// `i32.const`
+    I32Const(i32),
+    /// `i64.const`
+    I64Const(i64),
+    /// `f32.const`
+    F32Const(u32),
+    /// `f64.const`
+    F64Const(u64),
+    /// `v128.const`
+    V128Const(u128),
+    /// `global.get`, of a global by its index
+    GlobalGet(u32),
+    /// `ref.i31`
+    RefI31,
+    /// `ref.null`
+    RefNull(HeapType),
+    /// `ref.func`, of a function by its index
+    RefFunc(u32),
+    /// `i32.add`
+    I32Add,
+    /// `i32.sub`
+    I32Sub,
+    /// `i32.mul`
+    I32Mul,
+    /// `i64.add`
+    I64Add,
+    /// `i64.sub`
+    I64Sub,
+    /// `i64.mul`
+    I64Mul,
+    /// `struct.new`, of a type of the type section, as the next four
+    StructNew(u32),
+    /// `struct.new_default`
+    StructNewDefault(u32),
+    /// `array.new`
+    ArrayNew(u32),
+    /// `array.new_default`
+    ArrayNewDefault(u32),
+    /// `array.new_fixed`, with the number of elements
+    ArrayNewFixed(u32, u32),
+    /// `extern.convert_any`
+    ExternConvertAny,
+    /// `any.convert_extern`
+    AnyConvertExtern,
+}
+
 impl Operator {
+    /// The operator with its immediates.
+    ///
+    /// ```
+    /// # use bobbinazure::{ConstOp, Operator};
+    /// assert_eq!(Operator { code: 5, index: 2, ..Default::default() }.op(), ConstOp::GlobalGet(2));
+    /// ```
+    pub fn op(&self) -> ConstOp {
+        match u32::from(self.code) {
+            numbers::I32_CONST => ConstOp::I32Const(self.low as u32 as i32),
+            numbers::I64_CONST => ConstOp::I64Const(self.low as i64),
+            numbers::F32_CONST => ConstOp::F32Const(self.low as u32),
+            numbers::F64_CONST => ConstOp::F64Const(self.low),
+            numbers::V128_CONST => ConstOp::V128Const(u128::from(self.high) << 64 | u128::from(self.low)),
+            numbers::GLOBAL_GET => ConstOp::GlobalGet(self.index),
+            numbers::REF_I31 => ConstOp::RefI31,
+            numbers::REF_NULL => ConstOp::RefNull(HeapType::of(self.heap, self.list, self.index)),
+            numbers::REF_FUNC => ConstOp::RefFunc(self.index),
+            numbers::I32_ADD => ConstOp::I32Add,
+            numbers::I32_SUB => ConstOp::I32Sub,
+            numbers::I32_MUL => ConstOp::I32Mul,
+            numbers::I64_ADD => ConstOp::I64Add,
+            numbers::I64_SUB => ConstOp::I64Sub,
+            numbers::I64_MUL => ConstOp::I64Mul,
+            numbers::STRUCT_NEW => ConstOp::StructNew(self.index),
+            numbers::STRUCT_NEW_DEFAULT => ConstOp::StructNewDefault(self.index),
+            numbers::ARRAY_NEW => ConstOp::ArrayNew(self.index),
+            numbers::ARRAY_NEW_DEFAULT => ConstOp::ArrayNewDefault(self.index),
+            numbers::ARRAY_NEW_FIXED => ConstOp::ArrayNewFixed(self.index, self.low as u32),
+            numbers::EXTERN_CONVERT_ANY => ConstOp::ExternConvertAny,
+            _ => ConstOp::AnyConvertExtern,
+        }
+    }
+
     /// Its word in the text format.
     ///
     /// ```

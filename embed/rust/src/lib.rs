@@ -21,6 +21,7 @@
 #![warn(missing_debug_implementations, missing_docs)]
 
 mod bodies;
+mod canonical;
 mod entities;
 mod error;
 mod expressions;
@@ -29,6 +30,7 @@ mod layout;
 mod links;
 mod list;
 pub mod numbers;
+mod offsets;
 mod options;
 mod plan;
 mod records;
@@ -37,9 +39,10 @@ mod startup;
 mod types;
 
 pub use bodies::Body;
+pub use canonical::CanonicalGroup;
 pub use entities::{EntityIndex, Export, Function, Import};
 pub use error::{Error, Reason};
-pub use expressions::ConstExpr;
+pub use expressions::{ConstExpr, ConstOp};
 pub use interned::{GcLayout, GcLayoutKind};
 pub use links::{Answer, LinkError, link};
 pub use plan::{Plan, plan_and_text, text};

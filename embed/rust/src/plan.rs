@@ -75,6 +75,18 @@ impl<'d> Plan<'d> {
         let status = unsafe { bobbinazure_make_plan(bytes.as_ptr(), bytes.len(), options, &mut *record) };
         Ok(Plan { record: checked(status, record)?, module: bytes })
     }
+
+    /// The bytes of the module, from which the plan was made.
+    ///
+    /// ```
+    /// # let bytes = std::fs::read(concat!(env!("CARGO_MANIFEST_DIR"), "/../../examples/linked.wasm"))?;
+    /// let plan = bobbinazure::Plan::new(&bytes, &Default::default())?;
+    /// assert_eq!(plan.module_bytes(), bytes);
+    /// # Ok::<(), Box<dyn std::error::Error>>(())
+    /// ```
+    pub fn module_bytes(&self) -> &'d [u8] {
+        self.module
+    }
 }
 
 impl Plan<'_> {

@@ -1,0 +1,85 @@
+//! Where the entries of a context stand, in bytes from its begin. Indices of imports count the imports of a kind, indices of definitions the
+//! defined entities of a kind. The names are those of wasmtime-environ.
+
+use crate::plan::Plan;
+
+/// An entry of an array that begins at a byte.
+fn entry(begin: u32, stride: u32, index: u32) -> u32 {
+    begin + stride * index
+}
+
+impl Plan<'_> {
+    /// The import of a function.
+    pub fn vmctx_vmfunction_import(&self, import: u32) -> u32 {
+        entry(self.offsets().imported_functions, self.structs().function_import.size, import)
+    }
+
+    /// The import of a table.
+    pub fn vmctx_vmtable_import(&self, import: u32) -> u32 {
+        entry(self.offsets().imported_tables, self.structs().table_import.size, import)
+    }
+
+    /// The import of a memory.
+    pub fn vmctx_vmmemory_import(&self, import: u32) -> u32 {
+        entry(self.offsets().imported_memories, self.structs().memory_import.size, import)
+    }
+
+    /// The import of a global.
+    pub fn vmctx_vmglobal_import(&self, import: u32) -> u32 {
+        entry(self.offsets().imported_globals, self.structs().global_import.size, import)
+    }
+
+    /// The import of a tag.
+    pub fn vmctx_vmtag_import(&self, import: u32) -> u32 {
+        entry(self.offsets().imported_tags, self.structs().tag_import.size, import)
+    }
+
+    /// The definition of a table.
+    pub fn vmctx_vmtable_definition(&self, defined: u32) -> u32 {
+        entry(self.offsets().tables, self.structs().table_definition.size, defined)
+    }
+
+    /// The pointer to the definition of a memory.
+    pub fn vmctx_vmmemory_pointer(&self, defined: u32) -> u32 {
+        entry(self.offsets().memories, self.pointer_size(), defined)
+    }
+
+    /// The definition of a memory that is not shared, by its number among those that the module defines.
+    pub fn vmctx_vmmemory_definition(&self, owned: u32) -> u32 {
+        entry(self.offsets().owned_memories, self.structs().memory_definition.size, owned)
+    }
+
+    /// The definition of a global.
+    ///
+    /// ```
+    /// # let bytes = std::fs::read(concat!(env!("CARGO_MANIFEST_DIR"), "/../../examples/linked.wasm"))?;
+    /// # let options = bobbinazure::Options { cow: true, lazy_tables: true, ..Default::default() };
+    /// # let plan = bobbinazure::Plan::new(&bytes, &options)?;
+    /// assert_eq!(plan.vmctx_vmglobal_definition(0), plan.offsets().globals);
+    /// assert_eq!(plan.vmctx_vmglobal_definition(1), plan.offsets().globals + 16);
+    /// # Ok::<(), Box<dyn std::error::Error>>(())
+    /// ```
+    pub fn vmctx_vmglobal_definition(&self, defined: u32) -> u32 {
+        entry(self.offsets().globals, self.structs().global_definition.size, defined)
+    }
+
+    /// The definition of a tag.
+    pub fn vmctx_vmtag_definition(&self, defined: u32) -> u32 {
+        entry(self.offsets().tags, self.structs().tag_definition.size, defined)
+    }
+
+    /// A reference to a function, by its number among the functions that escape.
+    pub fn vmctx_vmfunc_ref(&self, escaping: u32) -> u32 {
+        entry(self.offsets().func_refs, self.structs().func_ref.size, escaping)
+    }
+
+    /// The pointer to the bytes of a runtime data.
+    pub fn vmctx_runtime_data_base(&self, runtime: u32) -> u32 {
+        entry(self.offsets().runtime_data_bases, self.pointer_size(), runtime)
+    }
+
+    /// The length of a runtime data, a number of 32 bits.
+    pub fn vmctx_runtime_data_length(&self, runtime: u32) -> u32 {
+        entry(self.offsets().runtime_data_lengths, 4, runtime)
+    }
+}
