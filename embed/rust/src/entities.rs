@@ -181,6 +181,25 @@ impl Plan<'_> {
         })
     }
 
+    /// A function, by its index.
+    ///
+    /// ```
+    /// # let bytes = std::fs::read(concat!(env!("CARGO_MANIFEST_DIR"), "/../../examples/linked.wasm"))?;
+    /// # let plan = bobbinazure::Plan::new(&bytes, &Default::default())?;
+    /// assert_eq!(plan.function(1), plan.functions().nth(1));
+    /// assert_eq!(plan.function(2), None);
+    /// # Ok::<(), Box<dyn std::error::Error>>(())
+    /// ```
+    pub fn function(&self, function: u32) -> Option<Function> {
+        let (signature, escape) = (self.record.functions.as_slice(), self.record.escapes.as_slice());
+        Some(Function {
+            index: function,
+            imported: u64::from(function) < self.record.entities.imported_functions,
+            signature: *signature.get(function as usize)?,
+            func_ref: index(*escape.get(function as usize)?),
+        })
+    }
+
     /// The memories, imported ones first.
     ///
     /// ```
