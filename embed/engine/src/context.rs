@@ -8,7 +8,8 @@ use bobbinazure::EntityIndex;
 const MAGIC: u32 = u32::from_le_bytes(*b"core");
 
 impl Instance<'_> {
-    /// Writes the context. What only running code reads stays null: the store, the built-in functions, the epoch and the collector.
+    /// Writes the context. What only running code reads stays null: the store, the built-in functions, the epoch and
+    /// the collector.
     pub(crate) fn write_context(&self, linked: &Linked<'_>, exporters: &[&Instance<'_>]) {
         let layout = self.plan().structs().static_context;
         self.region.put(layout.magic as usize, MAGIC);

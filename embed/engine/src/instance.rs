@@ -123,6 +123,19 @@ impl Instance<'_> {
         unsafe { (load(from + layout.base as usize), load(from + layout.current_length as usize)) }
     }
 
+    /// The address and the length of a runtime data.
+    pub(crate) fn runtime_data(&self, runtime: u32) -> (usize, usize) {
+        let length: u32 = self.region.get(self.plan().vmctx_runtime_data_length(runtime) as usize);
+        (self.region.get(self.plan().vmctx_runtime_data_base(runtime) as usize), length as usize)
+    }
+
+    /// The engine's index of the type of a tag.
+    pub(crate) fn tag_type(&self, tag: u32) -> u32 {
+        let layout = self.plan().structs().tag_definition;
+        // SAFETY: as of `cells`.
+        unsafe { load(self.tag(tag).from + layout.type_index as usize) }
+    }
+
     /// The bits of a global: a number or a vector, or a reference as in a cell.
     pub(crate) fn value(&self, global: u32) -> u128 {
         let storage = self.plan().structs().global_definition.storage as usize;

@@ -28,11 +28,13 @@ impl<'t> Store<'t> {
         Store::default()
     }
 
-    /// A new instance of a module that is linked, which imports from these instances, one of each exporter in order. Its start function is not called.
+    /// A new instance of a module that is linked, which imports from these instances, one of each exporter in order.
+    /// Its start function is not called.
     ///
     /// # Errors
-    /// [`Error::Trap`] where a segment does not fit. What the segments before it wrote to imported tables and memories stays, as in the standard, and so
-    /// does the instance: a table may refer to its functions. [`Error::WrongInstances`], [`Error::System`].
+    /// [`Error::Trap`] where a segment does not fit. What the segments before it wrote to imported tables and memories
+    /// stays, as in the standard, and so does the instance: a table may refer to its functions.
+    /// [`Error::WrongInstances`], [`Error::System`].
     pub fn instantiate(&mut self, linked: &Linked<'t>, from: &[InstanceId]) -> Result<InstanceId, Error> {
         let exporters: Vec<&Instance<'t>> = from.iter().filter_map(|id| self.instances.get(id.0)).collect();
         let is_right = |(exporter, wanted): (&&Instance<'t>, &&'t Template<'t>)| {
@@ -104,12 +106,29 @@ impl<'t> Store<'t> {
         self.instance(id)?.passive.get(segment as usize).map(Vec::as_slice)
     }
 
+    /// The bytes of a passive data segment, by its number in the data section, as the context has them. None of an
+    /// active segment, which was dropped, and of one without bytes.
+    pub fn passive_data(&self, id: InstanceId, segment: u32) -> Option<&[u8]> {
+        let instance = self.instance(id)?;
+        let data = instance.plan().passive_data().find(|data| data.segment == segment)?;
+        let (begin, len) = instance.runtime_data(data.runtime);
+        // SAFETY: the bytes are the module's or the plan's, which the template borrows or has.
+        Some(unsafe { slice::from_raw_parts(std::ptr::with_exposed_provenance(begin), len) })
+    }
+
+    /// The type of a tag, by the engine's index.
+    pub fn tag_type(&self, id: InstanceId, tag: u32) -> Option<u32> {
+        let instance = self.instance(id)?;
+        ((tag as usize) < instance.plan().tags().len()).then(|| instance.tag_type(tag))
+    }
+
     /// The reference to a function, as a cell has it; 0 where none can be made.
     pub fn func_ref(&self, id: InstanceId, function: u32) -> Option<u64> {
         self.instance(id).map(|instance| instance.func_ref(function))
     }
 
-    /// The function that a cell refers to: the instance that defines it, and its index there. None of null, and of what is no function.
+    /// The function that a cell refers to: the instance that defines it, and its index there. None of null, and of
+    /// what is no function.
     pub fn function(&self, cell: u64) -> Option<(InstanceId, u32)> {
         let (owner, at) = self.owner(cell)?;
         let layout = owner.plan().structs().func_ref;

@@ -8,7 +8,8 @@ use engine::{Config, Engine, Images, InstanceId, Linked, Store, Template};
 
 const INSTANCES: usize = 1000;
 
-/// The function that a cell of an instance refers to, by the number of its module: the instances of each round are made in the order of the modules.
+/// The function that a cell refers to, by the number of its module: the instances of a round are in the order of the
+/// modules.
 fn cell(store: &Store<'_>, first: &[InstanceId], cell: u64) -> Cell {
     let (owner, function) = store.function(cell)?;
     Some((first.iter().position(|id| *id == owner).expect("an instance of this round"), function))
@@ -42,7 +43,7 @@ fn spoil(store: &mut Store<'_>, id: InstanceId, seed: usize) {
     }
 }
 
-/// The instances of a program, each with hosts of its own, by one of the ways to give images. Each is compared when it is made.
+/// The instances of a program, each with hosts of its own. Each is compared when it is made.
 fn make_many(engine: &Engine, name: &str, program: &[u8]) {
     let plan = bobbinazure::Plan::new(program, &engine.options()).expect("it is planned");
     let names = host::names(&plan);
