@@ -2,7 +2,7 @@
 
 use crate::error::Error;
 use crate::template::Template;
-use bobbinazure::{Answer, EntityIndex, Export, link};
+use bobbinazure::{Answer, EntityIndex, Export, Options, link};
 
 /// A module and the modules that it imports from, with what each import is given.
 #[derive(Clone, Debug)]
@@ -14,7 +14,8 @@ pub struct Linked<'t> {
 }
 
 impl<'m> Template<'m> {
-    /// Links each import to an export of one of these modules, each of which stands under a name.
+    /// Links each import to an export of one of these modules, each of which stands under a name. What a module exports
+    /// again counts as it declares it, though an instance may have been given more.
     ///
     /// # Errors
     /// [`Error::Missing`], [`Error::Mismatch`], of the first import that has either; [`Error::Link`].
@@ -26,7 +27,9 @@ impl<'m> Template<'m> {
             if !imports.iter().any(|import| import.module == *name) {
                 continue;
             }
-            let new = link(exporter.plan().module_bytes(), self.plan().module_bytes(), name, self.options())?;
+            // Both modules are planned once more; without images that takes no time for their data.
+            let new =
+                link(exporter.plan().module_bytes(), self.plan().module_bytes(), name, &Options::default())?;
             for (place, answer) in new.into_iter().enumerate() {
                 if answers[place] == Answer::Missing {
                     (answers[place], from[place]) = (answer, number);

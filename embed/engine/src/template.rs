@@ -4,13 +4,12 @@ use crate::engine::{Engine, Images};
 use crate::error::Error;
 use crate::os::ImageFile;
 use crate::region::RegionLayout;
-use bobbinazure::{ConstExpr, ConstOp, GlobalInit, Items, Options, Plan, SegmentOffset};
+use bobbinazure::{ConstExpr, ConstOp, GlobalInit, Items, Plan, SegmentOffset};
 
 /// A module that instances are made of: its plan, its memory images in a file, and what stands where in a region.
 #[derive(Debug)]
 pub struct Template<'m> {
     plan: Plan<'m>,
-    options: Options,
     /// The file of all images, where they are mapped.
     pub(crate) file: Option<ImageFile>,
     /// Where in the file each image begins.
@@ -28,8 +27,7 @@ impl<'m> Template<'m> {
     /// # Errors
     /// [`Error::Plan`] where there is no plan; [`Error::Unsupported`], [`Error::TooLarge`], [`Error::System`].
     pub fn new(engine: &Engine, bytes: &'m [u8]) -> Result<Self, Error> {
-        let options = engine.options();
-        let plan = Plan::new(bytes, &options)?;
+        let plan = Plan::new(bytes, &engine.options())?;
         refuse_unsupported(&plan)?;
         let layout = RegionLayout::of(&plan, engine.page_size(), &engine.config().limits)?;
         let file_offsets: Vec<u64> = places_in_file(&plan, engine.page_size() as u64);
@@ -38,17 +36,12 @@ impl<'m> Template<'m> {
         let file = is_mapped.then(|| ImageFile::new(parts)).transpose()?;
         let codes = plan.bodies().map(|body| body.code.as_ptr().expose_provenance()).collect();
         let types = engine.register(&plan);
-        Ok(Template { plan, options, file, file_offsets, layout, types, codes })
+        Ok(Template { plan, file, file_offsets, layout, types, codes })
     }
 
     /// Its plan.
     pub fn plan(&self) -> &Plan<'m> {
         &self.plan
-    }
-
-    /// What it was planned with.
-    pub fn options(&self) -> &Options {
-        &self.options
     }
 
     /// The engine's index of an interned type of the plan; equal types of the modules of an engine have one.

@@ -1,6 +1,6 @@
 //! Modules that export what a program imports, so that it can be linked by the library as any two modules are.
 
-use super::spelling::{constant, data, elements, export, limits, module, section, sized, unsigned};
+use super::spelling::{constant, data, elements, export, limits, module, section, signed, sized, unsigned};
 use bobbinazure::{CompositeType, EntityIndex, Fields, Import, Plan, StorageType, ValType};
 
 /// The sections of a host, as it grows.
@@ -35,6 +35,23 @@ fn types(fields: Fields<'_>) -> Vec<u8> {
     sized(&fields.iter().map(|field| byte_of(field.element_type)).collect::<Vec<u8>>())
 }
 
+/// A constant expression of a type.
+fn number(ty: u8, value: i64) -> Vec<u8> {
+    match ty {
+        0x7F => constant(value),
+        0x7E => [vec![0x42], signed(value), vec![0x0B]].concat(),
+        0x7D => [&[0x43][..], &(value as f32).to_le_bytes(), &[0x0B]].concat(),
+        _ => [&[0x44][..], &(value as f64).to_le_bytes(), &[0x0B]].concat(),
+    }
+}
+
+/// Limits of what has places of 64 bits, or of 32.
+fn wide_limits(wide: bool, least: u64, most: Option<u64>) -> Vec<u8> {
+    let mut limits = limits(least, most);
+    limits[0] |= if wide { 4 } else { 0 };
+    limits
+}
+
 /// What a host holds in a global of a name: where a library is to be placed, or some other address.
 fn address(name: &str, place: usize) -> i64 {
     match name {
@@ -59,19 +76,21 @@ impl Host {
             }
             EntityIndex::Table(index) => {
                 let table = plan.tables()[index as usize];
-                let least = table.max().unwrap_or(table.minimum + 4);
-                self.tables.push([vec![0x70], limits(least, table.max())].concat());
+                let least = table.max().unwrap_or(table.minimum + 8);
+                self.tables.push([vec![0x70], wide_limits(table.wide != 0, least, table.max())].concat());
                 (1, self.tables.len())
             }
             EntityIndex::Memory(index) => {
                 let memory = plan.memories()[index as usize];
-                self.memories.push(limits(memory.max().unwrap_or(memory.minimum + 1), memory.max()));
+                let least = memory.max().unwrap_or(memory.minimum + 1);
+                self.memories.push(wide_limits(memory.wide, least, memory.max()));
                 (2, self.memories.len())
             }
             EntityIndex::Global(index) => {
                 let global = plan.globals()[index as usize];
-                let first = constant(address(import.name, self.globals.len()));
-                self.globals.push([vec![0x7F, u8::from(global.mutability())], first].concat());
+                let ty = byte_of(global.ty());
+                let first = number(ty, address(import.name, self.globals.len()));
+                self.globals.push([vec![ty, u8::from(global.mutability())], first].concat());
                 (3, self.globals.len())
             }
             EntityIndex::Tag(_) => panic!("a host has no tags"),
