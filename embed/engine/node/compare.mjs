@@ -1,5 +1,6 @@
-// node compare.mjs FOLDER : instantiates each program of the folder that examples/dump.rs wrote, and compares every byte, cell and global that it
-// exports with what the allocator's instance held. Start functions are left out of the modules, since the allocator runs no code.
+// node compare.mjs FOLDER : instantiates each program of the folder that examples/dump.rs wrote, and compares every
+// byte, cell and global that it exports with what the allocator's instance held. Start functions are left out of the
+// modules, since the allocator runs no code.
 import { readFileSync, readdirSync } from "node:fs";
 import { join } from "node:path";
 

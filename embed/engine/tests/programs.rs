@@ -6,8 +6,6 @@ use common::replay::{Cell, State, Value, replay};
 use common::{host, programs};
 use engine::{Config, Engine, Images, InstanceId, Linked, Store, Template};
 
-const INSTANCES: usize = 1000;
-
 /// The function that a cell refers to, by the number of its module: the instances of a round are in the order of the
 /// modules.
 fn cell(store: &Store<'_>, first: &[InstanceId], cell: u64) -> Cell {
@@ -44,7 +42,7 @@ fn spoil(store: &mut Store<'_>, id: InstanceId, seed: usize) {
 }
 
 /// The instances of a program, each with hosts of its own. Each is compared when it is made.
-fn make_many(engine: &Engine, name: &str, program: &[u8]) {
+fn make_many(engine: &Engine, name: &str, program: &[u8], instances: usize) {
     let plan = bobbinazure::Plan::new(program, &engine.options()).expect("it is planned");
     let names = host::names(&plan);
     let spelled: Vec<Vec<u8>> = names.iter().map(|name| host::host(&plan, name)).collect();
@@ -62,7 +60,7 @@ fn make_many(engine: &Engine, name: &str, program: &[u8]) {
     assert_eq!(wanted.trap, None, "{name}");
 
     let mut store = Store::new();
-    for seed in 0..INSTANCES {
+    for seed in 0..instances {
         let mut round: Vec<InstanceId> = Vec::new();
         for host in &lone {
             round.push(store.instantiate(host, &[]).expect("an instance of a host"));
@@ -78,11 +76,11 @@ fn a_thousand_instances_of_each_program() {
     let engine = Engine::new(Config::default());
     let programs = programs();
     assert!(programs.len() >= 20);
-    programs.iter().for_each(|(name, program)| make_many(&engine, name, program));
+    programs.iter().for_each(|(name, program)| make_many(&engine, name, program, 1000));
 }
 
 #[test]
 fn copied_images_are_the_same() {
     let engine = Engine::new(Config { images: Images::Copy, ..Config::default() });
-    programs().iter().take(6).for_each(|(name, program)| make_many(&engine, name, program));
+    programs().iter().for_each(|(name, program)| make_many(&engine, name, program, 50));
 }
