@@ -10,6 +10,9 @@ use crate::instance::Instance;
 use crate::region::{CELL, store, store_bytes};
 use bobbinazure::{GlobalInit, Items, SegmentOffset};
 
+/// The null reference in the image of a table.
+const NO_FUNCTION: u32 = u32::MAX;
+
 /// The part from an offset on, where it fits in so many items.
 fn fitting(offset: u128, len: usize, whole: usize) -> Option<usize> {
     let offset = usize::try_from(offset).ok()?;
@@ -54,14 +57,13 @@ impl Instance<'_> {
     fn write_cells(&self) {
         let plans = self.plan().table_initial_values().zip(self.plan().table_images());
         for (place, (first, image)) in self.template.layout.tables.iter().zip(plans) {
-            if let Some(first) =
-                first.map(|expression| self.evaluate(expression) as u64).filter(|first| *first != 0)
-            {
-                (0..place.cells).for_each(|cell| self.region.put(place.begin + CELL * cell, first));
+            let write = |cell, reference| self.region.put(place.begin + CELL * cell, reference);
+            let first = first.map_or(0, |expression| self.evaluate(expression) as u64);
+            if first != 0 {
+                (0..place.cells).for_each(|cell| write(cell, first));
             }
             for (cell, function) in image.iter().enumerate() {
-                let reference = if *function == u32::MAX { 0 } else { self.func_ref(*function) };
-                self.region.put(place.begin + CELL * cell, reference);
+                write(cell, if *function == NO_FUNCTION { 0 } else { self.func_ref(*function) });
             }
         }
     }

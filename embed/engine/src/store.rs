@@ -37,11 +37,9 @@ impl<'t> Store<'t> {
     /// [`Error::WrongInstances`], [`Error::System`].
     pub fn instantiate(&mut self, linked: &Linked<'t>, from: &[InstanceId]) -> Result<InstanceId, Error> {
         let exporters: Vec<&Instance<'t>> = from.iter().filter_map(|id| self.instances.get(id.0)).collect();
-        let is_right = |(exporter, wanted): (&&Instance<'t>, &&'t Template<'t>)| {
-            std::ptr::eq(exporter.template, *wanted)
-        };
-        if exporters.len() != linked.exporters.len() || !exporters.iter().zip(&linked.exporters).all(is_right)
-        {
+        let mut pairs = exporters.iter().zip(&linked.exporters);
+        let are_linked = pairs.all(|(exporter, template)| std::ptr::eq(exporter.template, *template));
+        if exporters.len() != linked.exporters.len() || !are_linked {
             return Err(Error::WrongInstances);
         }
         let region = linked.template.layout.reserve()?;

@@ -73,9 +73,8 @@ fn refuse_unsupported(plan: &Plan<'_>) -> Result<(), Error> {
     if plan.memories().iter().any(|memory| memory.shared) {
         return Err(Error::Unsupported("memories that threads share"));
     }
-    if expressions(plan)
-        .any(|expression| expression.ops().iter().any(|operator| makes_object(&operator.op())))
-    {
+    let mut operators = expressions(plan).flat_map(|expression| expression.ops());
+    if operators.any(|operator| makes_object(&operator.op())) {
         return Err(Error::Unsupported("structs and arrays"));
     }
     Ok(())
