@@ -128,6 +128,23 @@ fn imports_that_do_not_link() {
     assert_eq!(said(&small), "import \"e\" \"m\" memory 1: the memory is too small");
 }
 
+/// In the standard the table itself is matched, which has four cells. The library goes by what the middle one declares.
+#[test]
+fn what_is_exported_again_counts_as_it_is_declared() {
+    let engine = Engine::new(Config::default());
+    let middle = |least| {
+        let table = [[0x70].as_slice(), &limits(least, None)].concat();
+        module(&[section(2, &[import("e", "t", 1, &table)]), section(7, &[export("again", 1, 0)])])
+    };
+    let last = module(&[section(2, &[import("m", "again", 1, &[0x70, 0, 4])])]);
+    for (least, said) in [(4, None), (3, Some("import \"m\" \"again\" table 0: the table is too small"))] {
+        let bytes = middle(least);
+        let [middle, last] = [&bytes, &last].map(|bytes| Template::new(&engine, bytes).expect("a template"));
+        let outcome = last.link(&[("m", &middle)]).map(|_| ());
+        assert_eq!(outcome.err().map(|error| error.to_string()).as_deref(), said);
+    }
+}
+
 #[test]
 fn instances_of_other_modules() {
     let engine = Engine::new(Config::default());
