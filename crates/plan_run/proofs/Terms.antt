@@ -1,18 +1,21 @@
 -- Terms stay when nodes are appended.
-use Rattle.std.proofs.Common.{◌≡◌, ℕ, zero, suc, ◌+◌, ◌<◌, ◌≤◌, List, [], ◌∷◌, ◌++◌, length, map, Some, refl, sym, ap, arith, zero-add}
+use Rattle.std.proofs.Common.{◌≡◌, ℕ, zero, suc, ◌+◌, ◌<◌, ◌≤◌, List, [], ◌∷◌, ◌++◌, length, map, Some, refl, sym, ◌∙◌, ap, arith, zero-add}
 use Rattle.std.specs.Prelude.{slice_get, All}
+use Rattle.std.specs.Global.{Vec}
 use Rattle.std.proofs.lemmas.Bool.{cases_lt}
 use Rattle.std.proofs.lemmas.List.{append_assoc, append-nil, length-append, length_push}
 use Rattle.std.proofs.lemmas.List.Elements.{All-head, All-tail, All-weaker}
 use Rattle.std.proofs.lemmas.Option.{slice_get_within, same_Some, none-some}
 use Rattle.replay_spec.specs.Values as plain
 use Rattle.replay_spec.specs.Values.{Term}
+use Rattle.plan_run.specs.declared.evaluation.Evaluator.{Evaluator}
 use Rattle.plan_run.specs.declared.value.Value.{Value}
 use Rattle.plan_run.specs.declared.value.Value.TheVariants as value
 use Rattle.plan_run.specs.declared.value.Node.{Node}
 use Rattle.wasm_convert.specs.Operators.{operator_of}
 use Rattle.plan_run.specs.Values.{value_in, values_in, imported_value, kept_term, term_of, terms_after, terms_of, NamesBelow, IsPlain, IsNodeAt, AreOrdered}
-use Rattle.plan_run.specs.Nodes.{Extends, Grows, Means, AllMean}
+use Rattle.plan_run.specs.Evaluation.{IsSound, Grows}
+use Rattle.plan_run.specs.Nodes.{Extends, Means, AllMean}
 use Rattle.plan_run.proofs.Lists.{get-append-low, get-append-high}
 
 -- ---- terms
@@ -76,11 +79,18 @@ extends-same nodes = record { more = []; is = sym (append-nil nodes) }
 pub extends-on : {a b c : List Node} → Extends a b → Extends b c → Extends a c
 extends-on one two = record { more = one.more ++ two.more; is = grind (arith, append_assoc) }
 
-pub grows-same : (nodes : List Node) → AreOrdered nodes → Grows nodes nodes
-grows-same nodes ordered = record { extends = extends-same nodes; ordered = ordered }
+pub grows-same : (e : Evaluator) → IsSound e → Grows e e
+grows-same e sound = record { extends = extends-same e.nodes.items; sound = sound; globals = refl; values = refl; translation = refl; types = refl }
 
-pub grows-on : {a b c : List Node} → Grows a b → Grows b c → Grows a c
-grows-on one two = record { extends = extends-on one.extends two.extends; ordered = two.ordered }
+pub grows-on : {a b c : Evaluator} → Grows a b → Grows b c → Grows a c
+grows-on one two = record {
+  extends = extends-on one.extends two.extends;
+  sound = two.sound;
+  globals = two.globals ∙ one.globals;
+  values = two.values ∙ one.values;
+  translation = two.translation ∙ one.translation;
+  types = two.types ∙ one.types;
+}
 
 module _ {old new : List Node} (e : Extends old new) where
   pub longer : length old ≤ length new
@@ -108,8 +118,18 @@ pub push-ordered : (nodes : List Node) (n : Node) → AreOrdered nodes → IsNod
 push-ordered nodes n ordered is k m at =
     grind (arith, cases_lt k (length nodes), ordered k m, get-append-low nodes (n ∷ []) k, slice_get_within (nodes ++ n ∷ []) k m at, length_push nodes n, get-append-high nodes (n ∷ []) 0)
 
-pub push-grows : (nodes : List Node) (n : Node) → AreOrdered nodes → IsNodeAt (length nodes) n → Grows nodes (nodes ++ n ∷ [])
-push-grows nodes n ordered is = record { extends = record { more = n ∷ []; is = refl }; ordered = push-ordered nodes n ordered is }
+pub push-grows : (e : Evaluator) (n : Node) (nodes : Vec Node) → IsSound e → IsNodeAt (length e.nodes.items) n → nodes.items ≡ e.nodes.items ++ n ∷ []
+    → Grows e (record { alloc = e.alloc; translation = e.translation; types = e.types; globals = e.globals; nodes = nodes })
+push-grows e n nodes sound at is =
+    let extends : Extends e.nodes.items nodes.items = record { more = n ∷ []; is = is } in
+    record {
+      extends = extends;
+      sound = record { ordered = rw is (push-ordered e.nodes.items n sound.ordered at); globals = all-names-more _ _ e.globals.items (longer extends) sound.globals };
+      globals = refl;
+      values = kept-values extends e.globals.items sound.globals;
+      translation = refl;
+      types = refl;
+    }
 
 pub pushed-means : (old new : List Node) (n : Node) (k : ℕ) → new ≡ old ++ n ∷ [] → k ≡ length old → Means new (value.Term k) (plain.Ref (term_of (terms_of old) n))
 pushed-means old new n k is at = grind (arith, push-means old n)

@@ -1,4 +1,5 @@
 pub mod Agreement
+pub mod Evaluation
 pub mod Fields
 pub mod Finished
 pub mod Kinds

@@ -4,17 +4,12 @@ use Rattle.replay_spec.specs.Values as plain
 use Rattle.replay_spec.specs.Values.{Action, acted}
 use Rattle.plan_run.specs.declared.value.Value.{Value}
 use Rattle.plan_run.specs.declared.value.Node.{Node}
-use Rattle.plan_run.specs.Values.{value_in, values_in, terms_of, NamesBelow, AreOrdered}
+use Rattle.plan_run.specs.Values.{value_in, values_in, terms_of, NamesBelow}
 
 -- nodes that begin with others
 pub record Extends (old new : List Node) : Type 0 where
   pub more : List Node
   pub is : new ≡ old ++ more
-
--- the same, and ordered
-pub record Grows (old new : List Node) : Type 0 where
-  pub extends : Extends old new
-  pub ordered : AreOrdered new
 
 -- a value stands for a plain one, over these nodes
 pub record Means (nodes : List Node) (v : Value) (meant : plain.Value) : Type 0 where

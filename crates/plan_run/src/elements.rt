@@ -8,19 +8,17 @@ ghost use Rattle.replay_spec.specs.Phases.{Phase};
 ghost use Rattle.replay_spec.specs.Values as plain;
 ghost use Rattle.replay_spec.specs.Values.{Term};
 ghost use Rattle.table_images.specs.Views.{items_of as the_items, active_elements_of};
-ghost use Rattle.plan_run.specs.Fields.{field_count_in};
+ghost use Rattle.plan_run.specs.Evaluation.{globals_of, fields_of, IsSound, Grows};
 ghost use Rattle.plan_run.specs.Lays.{Lays, Hold};
-ghost use Rattle.plan_run.specs.Nodes.{Grows, AllMean};
+ghost use Rattle.plan_run.specs.Nodes.{AllMean};
 ghost use Rattle.plan_run.specs.Segments.{WritesPiece};
 ghost use Rattle.plan_run.specs.Tables.{cells_in, element_piece, PiecesMean, TablesBelow};
-ghost use Rattle.plan_run.specs.Values.{values_in, terms_of, IsPlain, NamesBelow, AreOrdered};
+ghost use Rattle.plan_run.specs.Values.{values_in, IsPlain, NamesBelow};
 
-use crate::evaluation::{evaluate, offset_of};
+use crate::evaluation::Evaluator;
 use crate::segments::is_within;
-use crate::value::{Node, Value};
+use crate::value::Value;
 use entity_map::{EntityRef, OutOfMemory};
-use init_plan::ModuleTranslation;
-use module_types::ModuleTypes;
 use std::alloc::Global;
 use wasm_convert::ConstExpr;
 use wasm_index::FuncIndex;
@@ -47,82 +45,61 @@ fn references(alloc: Global, functions: &[FuncIndex]) -> Result<Vec<Value>, OutO
     Ok(items)
 }
 
-/// The values of expressions.
-fn evaluate_all(
-    alloc: Global,
-    translation: &ModuleTranslation<'_>,
-    types: &ModuleTypes,
-    globals: &[Value],
-    nodes: &mut Vec<Node>,
-    expressions: &[ConstExpr],
-) -> Result<Vec<Value>, OutOfMemory>
-    requires ordered { AreOrdered nodes.old.items }
-    requires globals { All (NamesBelow (length nodes.old.items)) globals.now }
-    ensures grows { OnOk result (Grows nodes.old.items nodes.new.items) }
-    ensures means { IfOk result (λ items. AllMean nodes.new.items items.items
-        (map (cell_of (values_in (terms_of nodes.old.items) globals.now) (field_count_in translation.now types.now)) (map expression_of expressions.now))) }
-{
-    let mut items = Vec::with_capacity(alloc, expressions.len())?;
-    for expression in expressions {
-        let value = evaluate(alloc, translation, types, globals, nodes, expression)?;
-        items.push(value)?;
-    }
-    Ok(items)
-}
-
-/// The values of a segment's items.
-fn items_of(
-    alloc: Global,
-    translation: &ModuleTranslation<'_>,
-    types: &ModuleTypes,
-    globals: &[Value],
-    nodes: &mut Vec<Node>,
-    elements: &TableSegmentElements,
-) -> Result<Vec<Value>, OutOfMemory>
-    requires ordered { AreOrdered nodes.old.items }
-    requires globals { All (NamesBelow (length nodes.old.items)) globals.now }
-    ensures grows { OnOk result (Grows nodes.old.items nodes.new.items) }
-    ensures means { IfOk result (λ items. AllMean nodes.new.items items.items
-        (item_cells (values_in (terms_of nodes.old.items) globals.now) (field_count_in translation.now types.now) (the_items elements.now))) }
-{
-    match elements {
-        TableSegmentElements::Functions(functions) => {
-            let items = references(alloc, functions)?;
-            Ok(items)
+impl Evaluator<'_, '_, '_> {
+    /// The values of expressions.
+    fn evaluate_all(&mut self, expressions: &[ConstExpr]) -> Result<Vec<Value>, OutOfMemory>
+        requires sound { IsSound self.old }
+        ensures grows { OnOk result (Grows self.old self.new) }
+        ensures means { IfOk result (λ items. AllMean self.new.nodes.items items.items
+            (map (cell_of (globals_of self.old) (fields_of self.old)) (map expression_of expressions.now))) }
+    {
+        let mut items = Vec::with_capacity(self.alloc, expressions.len())?;
+        for expression in expressions {
+            let value = self.evaluate(expression)?;
+            items.push(value)?;
         }
-        TableSegmentElements::Expressions { exprs, .. } => {
-            let items = evaluate_all(alloc, translation, types, globals, nodes, exprs)?;
-            Ok(items)
+        Ok(items)
+    }
+
+    /// The values of a segment's items.
+    fn items_of(&mut self, elements: &TableSegmentElements) -> Result<Vec<Value>, OutOfMemory>
+        requires sound { IsSound self.old }
+        ensures grows { OnOk result (Grows self.old self.new) }
+        ensures means { IfOk result (λ items. AllMean self.new.nodes.items items.items
+            (item_cells (globals_of self.old) (fields_of self.old) (the_items elements.now))) }
+    {
+        match elements {
+            TableSegmentElements::Functions(functions) => {
+                let items = references(self.alloc, functions)?;
+                Ok(items)
+            }
+            TableSegmentElements::Expressions { exprs, .. } => {
+                let items = self.evaluate_all(exprs)?;
+                Ok(items)
+            }
         }
     }
-}
 
-/// What is to be written of the element segments that are kept, in order.
-pub(crate) fn pieces_kept(
-    alloc: Global,
-    translation: &ModuleTranslation<'_>,
-    types: &ModuleTypes,
-    globals: &[Value],
-    nodes: &mut Vec<Node>,
-) -> Result<Vec<ElementPiece>, OutOfMemory>
-    requires ordered { AreOrdered nodes.old.items }
-    requires globals { All (NamesBelow (length nodes.old.items)) globals.now }
-    ensures grows { OnOk result (Grows nodes.old.items nodes.new.items) }
-    ensures means { IfOk result (λ pieces. PiecesMean nodes.new.items pieces.items
-        (map (elements_piece (values_in (terms_of nodes.old.items) globals.now) (field_count_in translation.now types.now))
-        (map active_elements_of translation.now.table_initialization.segments.items))) }
-{
-    let mut pieces = Vec::new(alloc);
-    for segment in &translation.table_initialization.segments {
-        let place = offset_of(alloc, translation, types, globals, nodes, &segment.offset)?;
-        let items = items_of(alloc, translation, types, globals, nodes, &segment.elements)?;
-        pieces.push(ElementPiece {
-            table: segment.table_index.index(),
-            place,
-            items,
-        })?;
+    /// What is to be written of the element segments that are kept, in order.
+    pub(crate) fn pieces_kept(&mut self) -> Result<Vec<ElementPiece>, OutOfMemory>
+        requires sound { IsSound self.old }
+        ensures grows { OnOk result (Grows self.old self.new) }
+        ensures means { IfOk result (λ pieces. PiecesMean self.new.nodes.items pieces.items (map (elements_piece (globals_of self.old) (fields_of self.old))
+            (map active_elements_of self.old.translation.now.table_initialization.segments.items))) }
+    {
+        let translation = self.translation;
+        let mut pieces = Vec::new(self.alloc);
+        for segment in &translation.table_initialization.segments {
+            let place = self.offset_of(&segment.offset)?;
+            let items = self.items_of(&segment.elements)?;
+            pieces.push(ElementPiece {
+                table: segment.table_index.index(),
+                place,
+                items,
+            })?;
+        }
+        Ok(pieces)
     }
-    Ok(pieces)
 }
 
 /// Writes a piece, where it fits, and tells whether it does.

@@ -4,13 +4,12 @@ ghost use Rattle.std.specs.Prelude.{◌≡◌, ℕ, List, length, All, IfOk, OnO
 ghost use Rattle.wasm_convert.specs.Constants.{expression_of};
 ghost use Rattle.wasm_convert.specs.Operators.{operator_of};
 ghost use Rattle.replay_spec.specs.Elements.{cell_of, value_or_null};
-ghost use Rattle.replay_spec.specs.Values.{Term, action, number_of, offset_over, only_value};
-ghost use Rattle.plan_run.specs.Fields.{field_count_in};
-ghost use Rattle.plan_run.specs.Nodes.{Acts, Grows, Means, MeansOption};
-ghost use Rattle.plan_run.specs.Values.{value_in, values_in, terms_of, NamesBelow, AreOrdered};
+ghost use Rattle.replay_spec.specs.Values.{Term, action, number_of, only_value};
+ghost use Rattle.plan_run.specs.Evaluation.{globals_of, fields_of, place_of as the_place, IsSound, Grows};
+ghost use Rattle.plan_run.specs.Nodes.{Acts, Means, MeansOption};
+ghost use Rattle.plan_run.specs.Values.{value_in, values_in, terms_of, NamesBelow};
 
 use crate::kinds::{Kind, kind_of, taken};
-use crate::nodes::{convert, push_node};
 use crate::simple::simple;
 use crate::value::{Node, Value};
 use entity_map::OutOfMemory;
@@ -19,62 +18,15 @@ use module_types::ModuleTypes;
 use std::alloc::Global;
 use wasm_convert::{ConstExpr, ConstOp};
 
-/// What an operator makes of the values that it takes; none where they are not what it wants.
-fn make(
-    alloc: Global,
-    globals: &[Value],
-    nodes: &mut Vec<Node>,
-    op: ConstOp,
-    args: &[Value],
-) -> Result<Option<Value>, OutOfMemory>
-    requires ordered { AreOrdered nodes.old.items }
-    requires globals { All (NamesBelow (length nodes.old.items)) globals.now }
-    requires args { All (NamesBelow (length nodes.old.items)) args.now }
-    ensures grows { OnOk result (Grows nodes.old.items nodes.new.items) }
-    ensures means { IfOk result (λ o. (fields : ℕ → ℕ) → MeansOption nodes.new.items o
-        ((action (values_in (terms_of nodes.old.items) globals.now) fields (operator_of op)).makes (values_in (terms_of nodes.old.items) args.now))) }
-{
-    match kind_of(op) {
-        Kind::Simple => Ok(simple(globals, op, args)),
-        Kind::Object => Ok(Some(push_node(alloc, nodes, op, args)?)),
-        Kind::Conversion => convert(alloc, nodes, op, args),
-    }
-}
-
-/// One operator: puts what it makes in the place of the values that it takes. Tells whether it finds
-/// the values that it wants.
-fn step(
-    alloc: Global,
-    translation: &ModuleTranslation<'_>,
-    types: &ModuleTypes,
-    globals: &[Value],
-    nodes: &mut Vec<Node>,
-    stack: &mut Vec<Value>,
-    op: ConstOp,
-) -> Result<bool, OutOfMemory>
-    requires ordered { AreOrdered nodes.old.items }
-    requires globals { All (NamesBelow (length nodes.old.items)) globals.now }
-    requires stack { All (NamesBelow (length nodes.old.items)) stack.old.items }
-    ensures grows { OnOk result (Grows nodes.old.items nodes.new.items) }
-    ensures acts { IfOk result (Acts (action (values_in (terms_of nodes.old.items) globals.now) (field_count_in translation.now types.now) (operator_of op))
-        nodes.old.items nodes.new.items stack.old.items stack.new.items) }
-{
-    // Copied here: the borrow checker copies no value that holds an index where it is passed on.
-    let asked = op;
-    let takes = taken(translation, types, asked);
-    if stack.len() < takes {
-        return Ok(false);
-    }
-    let rest = stack.len() - takes;
-    let (_, args) = stack.as_slice().split_at(rest);
-    match make(alloc, globals, nodes, op, args)? {
-        None => Ok(false),
-        Some(value) => {
-            stack.truncate(rest);
-            stack.push(value)?;
-            Ok(true)
-        }
-    }
+/// What evaluates the expressions of a translation, over the values of its globals.
+#[derive(Drop)]
+pub(crate) struct Evaluator<'t, 'd, 'a> {
+    pub(crate) alloc: Global,
+    pub(crate) translation: &'t ModuleTranslation<'d>,
+    pub(crate) types: &'a ModuleTypes,
+    pub(crate) globals: Vec<Value>,
+    /// What values of nodes stand for, by their numbers.
+    pub(crate) nodes: Vec<Node>,
 }
 
 /// The value that stands alone, and null where that is not so.
@@ -88,30 +40,6 @@ fn only(values: &[Value]) -> Value
     }
 }
 
-/// The value of an expression over the values of globals, and null where it has none.
-pub(crate) fn evaluate(
-    alloc: Global,
-    translation: &ModuleTranslation<'_>,
-    types: &ModuleTypes,
-    globals: &[Value],
-    nodes: &mut Vec<Node>,
-    expression: &ConstExpr,
-) -> Result<Value, OutOfMemory>
-    requires ordered { AreOrdered nodes.old.items }
-    requires globals { All (NamesBelow (length nodes.old.items)) globals.now }
-    ensures grows { OnOk result (Grows nodes.old.items nodes.new.items) }
-    ensures means { IfOk result (λ v. Means nodes.new.items v
-        (cell_of (values_in (terms_of nodes.old.items) globals.now) (field_count_in translation.now types.now) (expression_of expression.now))) }
-{
-    let mut stack = Vec::new(alloc);
-    for op in expression.ops() {
-        if !step(alloc, translation, types, globals, nodes, &mut stack, *op)? {
-            return Ok(Value::Null);
-        }
-    }
-    Ok(only(stack.as_slice()))
-}
-
 /// The place that a value names, and 0 where it is no integer.
 fn place_of(value: Value) -> u64
     ensures { (terms : List Term) → result ≡ number_of (value_in terms value) }
@@ -123,21 +51,72 @@ fn place_of(value: Value) -> u64
     }
 }
 
-/// The place that an offset names, over the values of globals.
-pub(crate) fn offset_of(
-    alloc: Global,
-    translation: &ModuleTranslation<'_>,
-    types: &ModuleTypes,
-    globals: &[Value],
-    nodes: &mut Vec<Node>,
-    offset: &ConstExpr,
-) -> Result<u64, OutOfMemory>
-    requires ordered { AreOrdered nodes.old.items }
-    requires globals { All (NamesBelow (length nodes.old.items)) globals.now }
-    ensures grows { OnOk result (Grows nodes.old.items nodes.new.items) }
-    ensures place { IfOk result (λ place. place
-        ≡ offset_over (values_in (terms_of nodes.old.items) globals.now) (field_count_in translation.now types.now) (expression_of offset.now)) }
-{
-    let value = evaluate(alloc, translation, types, globals, nodes, offset)?;
-    Ok(place_of(value))
+impl Evaluator<'_, '_, '_> {
+    /// What an operator makes of the values that it takes; none where they are not what it wants.
+    fn make(&mut self, op: ConstOp, args: &[Value]) -> Result<Option<Value>, OutOfMemory>
+        requires sound { IsSound self.old }
+        requires args { All (NamesBelow (length self.old.nodes.items)) args.now }
+        ensures grows { OnOk result (Grows self.old self.new) }
+        ensures means { IfOk result (λ o. (fields : ℕ → ℕ) → MeansOption self.new.nodes.items o
+            ((action (globals_of self.old) fields (operator_of op)).makes (values_in (terms_of self.old.nodes.items) args.now))) }
+    {
+        match kind_of(op) {
+            Kind::Simple => Ok(simple(&self.globals, op, args)),
+            Kind::Object => Ok(Some(self.push_node(op, args)?)),
+            Kind::Conversion => self.convert(op, args),
+        }
+    }
+
+    /// One operator: puts what it makes in the place of the values that it takes. Tells whether it
+    /// finds the values that it wants.
+    fn step(&mut self, stack: &mut Vec<Value>, op: ConstOp) -> Result<bool, OutOfMemory>
+        requires sound { IsSound self.old }
+        requires stack { All (NamesBelow (length self.old.nodes.items)) stack.old.items }
+        ensures grows { OnOk result (Grows self.old self.new) }
+        ensures acts { IfOk result (Acts (action (globals_of self.old) (fields_of self.old) (operator_of op))
+            self.old.nodes.items self.new.nodes.items stack.old.items stack.new.items) }
+    {
+        // Copied here: the borrow checker copies no value that holds an index where it is passed
+        // on.
+        let asked = op;
+        let takes = taken(self.translation, self.types, asked);
+        if stack.len() < takes {
+            return Ok(false);
+        }
+        let rest = stack.len() - takes;
+        let (_, args) = stack.as_slice().split_at(rest);
+        match self.make(op, args)? {
+            None => Ok(false),
+            Some(value) => {
+                stack.truncate(rest);
+                stack.push(value)?;
+                Ok(true)
+            }
+        }
+    }
+
+    /// The value of an expression, and null where it has none.
+    pub(crate) fn evaluate(&mut self, expression: &ConstExpr) -> Result<Value, OutOfMemory>
+        requires sound { IsSound self.old }
+        ensures grows { OnOk result (Grows self.old self.new) }
+        ensures means { IfOk result (λ v. Means self.new.nodes.items v (cell_of (globals_of self.old) (fields_of self.old) (expression_of expression.now))) }
+    {
+        let mut stack = Vec::new(self.alloc);
+        for op in expression.ops() {
+            if !self.step(&mut stack, *op)? {
+                return Ok(Value::Null);
+            }
+        }
+        Ok(only(stack.as_slice()))
+    }
+
+    /// The place that an offset names.
+    pub(crate) fn offset_of(&mut self, offset: &ConstExpr) -> Result<u64, OutOfMemory>
+        requires sound { IsSound self.old }
+        ensures grows { OnOk result (Grows self.old self.new) }
+        ensures place { IfOk result (λ place. place ≡ the_place self.old (expression_of offset.now)) }
+    {
+        let value = self.evaluate(offset)?;
+        Ok(place_of(value))
+    }
 }

@@ -1,8 +1,9 @@
 //! Whether a translation can be laid.
 
-ghost use Rattle.std.specs.Prelude.{◌≡◌, ◌⊎◌, ◌↔◌, ◌+◌, ◌<◌, ◌≤◌, List, Some, length, map, slice_get, All, IsTrue, IfSome};
+ghost use Rattle.std.specs.Prelude.{◌≡◌, ◌↔◌, ◌+◌, ◌<◌, ◌≤◌, List, Some, length, map, slice_get, All, IsTrue, IfSome};
 ghost use Rattle.wasm_index.specs.Index.{number_of};
 ghost use Rattle.wasm_types.specs.Memories.{minimum_bytes};
+ghost use Rattle.wasm_types.specs.Sizes.{HasFormatPages};
 ghost use Rattle.wasm_types.specs.declared.memory.Memory.{Memory as MemoryType};
 ghost use Rattle.wasm_module.specs.declared.table_initialization.TableInitialValue.{TableInitialValue};
 ghost use Rattle.table_images.specs.Steps.{images_of};
@@ -51,7 +52,7 @@ fn globals_are_finished(translation: &ModuleTranslation<'_>) -> bool
 }
 
 fn has_page_size(memory: &Memory) -> bool
-    ensures { IsTrue result ↔ ((memory.now.page_size_log2 ≡ 0) ⊎ (memory.now.page_size_log2 ≡ 16)) }
+    ensures { IsTrue result ↔ HasFormatPages memory.now }
 {
     if memory.page_size_log2 == 0 {
         return true;
@@ -60,7 +61,7 @@ fn has_page_size(memory: &Memory) -> bool
 }
 
 fn have_page_sizes(memories: &[Memory]) -> bool
-    ensures { IsTrue result ↔ All (λ memory. (memory.page_size_log2 ≡ 0) ⊎ (memory.page_size_log2 ≡ 16)) memories.now }
+    ensures { IsTrue result ↔ All HasFormatPages memories.now }
 {
     memories.iter().all(|memory| has_page_size(memory))
 }
@@ -90,7 +91,7 @@ fn are_images(segments: &[(MemoryIndex, MemorySegmentOffset, RuntimeDataIndex)])
 
 /// Whether an image is whole pages within a memory's minimum size.
 fn is_image_of(memory: &Memory, page: u64, start: u64, bytes: &[u8]) -> bool
-    requires log2 { (memory.now.page_size_log2 ≡ 0) ⊎ (memory.now.page_size_log2 ≡ 16) }
+    requires log2 { HasFormatPages memory.now }
     requires page { 0 < page }
     ensures { IsTrue result ↔ ImageIsWithin page (minimum_bytes memory.now) (Some (start, bytes.now)) }
 {
@@ -105,7 +106,7 @@ fn is_image_of(memory: &Memory, page: u64, start: u64, bytes: &[u8]) -> bool
 }
 
 fn fits_memory(translation: &ModuleTranslation<'_>, memory: usize, start: u64, bytes: &[u8]) -> bool
-    requires sizes { All (λ memory. (memory.page_size_log2 ≡ 0) ⊎ (memory.page_size_log2 ≡ 16)) translation.now.module.memories }
+    requires sizes { All HasFormatPages translation.now.module.memories }
     requires page { 0 < page_size_of translation.now }
     ensures { IsTrue result ↔ ((m : MemoryType) → slice_get translation.now.module.memories memory ≡ Some m
         → ImageIsWithin (page_size_of translation.now) (minimum_bytes m) (Some (start, bytes.now))) }
@@ -125,7 +126,7 @@ fn image_fits(
     start: u64,
     index: RuntimeDataIndex,
 ) -> bool
-    requires sizes { All (λ memory. (memory.page_size_log2 ≡ 0) ⊎ (memory.page_size_log2 ≡ 16)) translation.now.module.memories }
+    requires sizes { All HasFormatPages translation.now.module.memories }
     requires page { 0 < page_size_of translation.now }
     requires segments { processed_of translation.now.memory_init ≡ map planned_segment_of segments.now }
     ensures { IsTrue result ↔ ImageFits translation.now memory (start, number_of index) }
@@ -145,7 +146,7 @@ fn is_none_or_fits(
     memory: usize,
     image: Option<(u64, RuntimeDataIndex)>,
 ) -> bool
-    requires sizes { All (λ memory. (memory.page_size_log2 ≡ 0) ⊎ (memory.page_size_log2 ≡ 16)) translation.now.module.memories }
+    requires sizes { All HasFormatPages translation.now.module.memories }
     requires page { 0 < page_size_of translation.now }
     requires segments { processed_of translation.now.memory_init ≡ map planned_segment_of segments.now }
     ensures { IsTrue result ↔ IfSome image (λ image. ImageFits translation.now memory (image.0, number_of image.1)) }
@@ -161,7 +162,7 @@ fn images_fit(
     translation: &ModuleTranslation<'_>,
     segments: &[(MemoryIndex, MemorySegmentOffset, RuntimeDataIndex)],
 ) -> bool
-    requires sizes { All (λ memory. (memory.page_size_log2 ≡ 0) ⊎ (memory.page_size_log2 ≡ 16)) translation.now.module.memories }
+    requires sizes { All HasFormatPages translation.now.module.memories }
     requires page { 0 < page_size_of translation.now }
     requires segments { processed_of translation.now.memory_init ≡ map planned_segment_of segments.now }
     ensures { IsTrue result ↔ ImagesFit translation.now }

@@ -1,8 +1,9 @@
 //! How large defined memories and tables may be.
 
-ghost use Rattle.std.specs.Prelude.{◌≡◌, ◌⊎◌, ◌↔◌, ◌≤◌, ◌<◌, ◌^◌, length, map, drop, sum_by, All, IsTrue};
+ghost use Rattle.std.specs.Prelude.{◌≡◌, ◌↔◌, ◌≤◌, ◌<◌, ◌^◌, length, map, drop, sum_by, All, IsTrue};
 ghost use Rattle.std.specs.List.{sum};
 ghost use Rattle.wasm_types.specs.Memories.{minimum_bytes};
+ghost use Rattle.wasm_types.specs.Sizes.{HasFormatPages};
 ghost use Rattle.paged_memory.specs.Memory.{page_count};
 ghost use Rattle.plan_run.specs.Limits.{page_size_of, most_bytes, most_pages, most_cells, IsTooLarge};
 
@@ -25,19 +26,16 @@ pub(crate) fn page_size(translation: &ModuleTranslation<'_>) -> u64
 
 /// The minimum size of a memory, in bytes.
 pub(crate) fn minimum_size(memory: &Memory) -> u128
-    requires { (memory.now.page_size_log2 ≡ 0) ⊎ (memory.now.page_size_log2 ≡ 16) }
+    requires { HasFormatPages memory.now }
     ensures size { result ≡ minimum_bytes memory.now }
     ensures below { result < 2 ^ 80 }
 {
-    if memory.page_size_log2 == 0 {
-        return u128::from(memory.limits.min);
-    }
-    u128::from(memory.limits.min) * 65536
+    u128::from(memory.limits.min) * u128::from(memory.page_size())
 }
 
 /// Whether the memories hold more bytes than they may.
 fn have_too_many_bytes(memories: &[Memory]) -> bool
-    requires { All (λ m. (m.page_size_log2 ≡ 0) ⊎ (m.page_size_log2 ≡ 16)) memories.now }
+    requires { All HasFormatPages memories.now }
     ensures { IsTrue result ↔ (most_bytes < sum_by minimum_bytes memories.now) }
 {
     let mut left = MOST_BYTES;
@@ -53,7 +51,7 @@ fn have_too_many_bytes(memories: &[Memory]) -> bool
 
 /// How many pages of so many bytes hold a memory's minimum size.
 fn minimum_pages(memory: &Memory, page: u64) -> u128
-    requires log2 { (memory.now.page_size_log2 ≡ 0) ⊎ (memory.now.page_size_log2 ≡ 16) }
+    requires log2 { HasFormatPages memory.now }
     requires page { 0 < page }
     ensures { result ≡ page_count page (minimum_bytes memory.now) }
 {
@@ -62,7 +60,7 @@ fn minimum_pages(memory: &Memory, page: u64) -> u128
 
 /// Whether the memories have more pages than they may, of so many bytes each.
 fn have_too_many_pages(memories: &[Memory], page: u64) -> bool
-    requires sizes { All (λ m. (m.page_size_log2 ≡ 0) ⊎ (m.page_size_log2 ≡ 16)) memories.now }
+    requires sizes { All HasFormatPages memories.now }
     requires page { 0 < page }
     ensures { IsTrue result ↔ (most_pages < sum_by (λ m. page_count page (minimum_bytes m)) memories.now) }
 {
@@ -95,7 +93,7 @@ fn have_too_many_cells(tables: &[Table]) -> bool
 pub(crate) fn is_too_large(translation: &ModuleTranslation<'_>) -> bool
     requires memories { translation.now.module.num_imported_memories ≤ length translation.now.module.memories }
     requires tables { translation.now.module.num_imported_tables ≤ length translation.now.module.tables }
-    requires sizes { All (λ m. (m.page_size_log2 ≡ 0) ⊎ (m.page_size_log2 ≡ 16)) translation.now.module.memories }
+    requires sizes { All HasFormatPages translation.now.module.memories }
     requires page { 0 < page_size_of translation.now }
     ensures { IsTrue result ↔ IsTooLarge translation.now }
 {

@@ -1,9 +1,10 @@
 //! Memories as they begin.
 
-ghost use Rattle.std.specs.Prelude.{◌≡◌, ◌⊎◌, ◌++◌, ◌<◌, ◌≤◌, ◌^◌, length, map, drop, All, IfOk};
+ghost use Rattle.std.specs.Prelude.{◌≡◌, ◌++◌, ◌<◌, ◌≤◌, ◌^◌, length, map, drop, All, IfOk};
 ghost use Rattle.std.specs.Option.{option_map};
 ghost use Rattle.wasm_index.specs.Index.{number_of};
 ghost use Rattle.wasm_types.specs.Memories.{minimum_bytes};
+ghost use Rattle.wasm_types.specs.Sizes.{HasFormatPages};
 ghost use Rattle.replay_spec.specs.Plan.{runtime_bytes};
 ghost use Rattle.init_plan.specs.Views.{memory_plan_of};
 ghost use Rattle.plan_run.specs.declared.laid.Way.TheVariants.{Map};
@@ -77,7 +78,7 @@ fn first_memory<'t>(
     image: Option<(u64, &'t [u8])>,
 ) -> Result<PagedMemory<'t>, OutOfMemory>
     requires page { 0 < page }
-    requires log2 { (memory.now.page_size_log2 ≡ 0) ⊎ (memory.now.page_size_log2 ≡ 16) }
+    requires log2 { HasFormatPages memory.now }
     requires small { minimum_bytes memory.now < 2 ^ 64 }
     requires within { ImageIsWithin page (minimum_bytes memory.now) (option_map (λ image. (image.0, image.1.now)) image) }
     ensures bytes { IfOk result (λ m. m.bytes ≡ first_bytes (minimum_bytes memory.now) (option_map (λ image. (image.0, image.1.now)) image.entry)) }
@@ -101,7 +102,7 @@ pub(crate) fn first_memories<'t>(
     requires imports { length imported.items ≡ translation.now.module.num_imported_memories }
     requires count { translation.now.module.num_imported_memories ≤ length translation.now.module.memories }
     requires page { 0 < page_size_of translation.now }
-    requires sizes { All (λ m. (m.page_size_log2 ≡ 0) ⊎ (m.page_size_log2 ≡ 16)) translation.now.module.memories }
+    requires sizes { All HasFormatPages translation.now.module.memories }
     requires small { All (λ m. minimum_bytes m < 2 ^ 64) (own_memories translation.now) }
     requires within { ImagesAreWithin way (memory_plan_of translation.now) (page_size_of translation.now) translation.now.module.num_imported_memories
         (own_memories translation.now) }

@@ -6,37 +6,16 @@ ghost use Rattle.replay_spec.specs.Values as plain;
 ghost use Rattle.replay_spec.specs.Values.{converted};
 ghost use Rattle.plan_run.specs.declared.kinds.Kind.TheVariants.{Conversion};
 ghost use Rattle.plan_run.specs.declared.value.Value.TheVariants.{Term};
+ghost use Rattle.plan_run.specs.Evaluation.{IsSound, Grows};
 ghost use Rattle.plan_run.specs.Kinds.{kind_of, conversion};
-ghost use Rattle.plan_run.specs.Nodes.{Grows, Means, MeansOption};
+ghost use Rattle.plan_run.specs.Nodes.{Means, MeansOption};
 ghost use Rattle.plan_run.specs.Values.{value_in, values_in, terms_of, kept_term, NamesBelow, IsReference, HasReference, AreOrdered};
 
+use crate::evaluation::Evaluator;
 use crate::kinds::undoes;
 use crate::value::{Node, Value};
 use entity_map::OutOfMemory;
-use std::alloc::Global;
 use wasm_convert::ConstOp;
-
-/// A node of an operator and its arguments, as a value.
-pub(crate) fn push_node(
-    alloc: Global,
-    nodes: &mut Vec<Node>,
-    op: ConstOp,
-    args: &[Value],
-) -> Result<Value, OutOfMemory>
-    requires ordered { AreOrdered nodes.old.items }
-    requires below { All (NamesBelow (length nodes.old.items)) args.now }
-    requires converts { HasReference (operator_of op) args.now }
-    ensures grows { OnOk result (Grows nodes.old.items nodes.new.items) }
-    ensures means { IfOk result (λ v. Means nodes.new.items v (plain.Ref (kept_term (operator_of op) (values_in (terms_of nodes.old.items) args.now)))) }
-{
-    if u32::MAX as usize <= nodes.len() {
-        return Err(OutOfMemory);
-    }
-    let number = nodes.len() as u32;
-    let args = Vec::from_slice(alloc, args)?;
-    nodes.push(Node { op, args })?;
-    Ok(Value::Term(number))
-}
 
 /// What a node was made from, where a conversion undoes it.
 fn given_back(nodes: &[Node], op: ConstOp, number: u32) -> Option<Value>
@@ -88,44 +67,59 @@ fn is_reference(value: Value) -> bool
     }
 }
 
-/// A reference, converted. One that the other conversion made gives back what that was made from;
-/// what is no reference is not converted.
-fn convert_one(
-    alloc: Global,
-    nodes: &mut Vec<Node>,
-    op: ConstOp,
-    value: Value,
-) -> Result<Option<Value>, OutOfMemory>
-    requires ordered { AreOrdered nodes.old.items }
-    requires conversion { kind_of (operator_of op) ≡ Conversion }
-    requires below { NamesBelow (length nodes.old.items) value }
-    ensures grows { OnOk result (Grows nodes.old.items nodes.new.items) }
-    ensures means { IfOk result (λ o. MeansOption nodes.new.items o (converted (conversion (operator_of op)) (value_in (terms_of nodes.old.items) value ∷ []))) }
-{
-    if !is_reference(value) {
-        return Ok(None);
+impl Evaluator<'_, '_, '_> {
+    /// A node of an operator and its arguments, as a value.
+    pub(crate) fn push_node(&mut self, op: ConstOp, args: &[Value]) -> Result<Value, OutOfMemory>
+        requires sound { IsSound self.old }
+        requires below { All (NamesBelow (length self.old.nodes.items)) args.now }
+        requires converts { HasReference (operator_of op) args.now }
+        ensures grows { OnOk result (Grows self.old self.new) }
+        ensures means { IfOk result (λ v. Means self.new.nodes.items v (plain.Ref (kept_term (operator_of op) (values_in (terms_of self.old.nodes.items) args.now)))) }
+    {
+        if u32::MAX as usize <= self.nodes.len() {
+            return Err(OutOfMemory);
+        }
+        let number = self.nodes.len() as u32;
+        let args = Vec::from_slice(self.alloc, args)?;
+        self.nodes.push(Node { op, args })?;
+        Ok(Value::Term(number))
     }
-    if let Some(known) = known_conversion(nodes, op, value) {
-        return Ok(Some(known));
-    }
-    Ok(Some(push_node(alloc, nodes, op, &[value])?))
-}
 
-/// The one argument of a conversion, converted.
-pub(crate) fn convert(
-    alloc: Global,
-    nodes: &mut Vec<Node>,
-    op: ConstOp,
-    args: &[Value],
-) -> Result<Option<Value>, OutOfMemory>
-    requires ordered { AreOrdered nodes.old.items }
-    requires conversion { kind_of (operator_of op) ≡ Conversion }
-    requires below { All (NamesBelow (length nodes.old.items)) args.now }
-    ensures grows { OnOk result (Grows nodes.old.items nodes.new.items) }
-    ensures means { IfOk result (λ o. MeansOption nodes.new.items o (converted (conversion (operator_of op)) (values_in (terms_of nodes.old.items) args.now))) }
-{
-    match args {
-        [value] => convert_one(alloc, nodes, op, *value),
-        _ => Ok(None),
+    /// A reference, converted. One that the other conversion made gives back what that was made
+    /// from; what is no reference is not converted.
+    fn convert_one(&mut self, op: ConstOp, value: Value) -> Result<Option<Value>, OutOfMemory>
+        requires sound { IsSound self.old }
+        requires conversion { kind_of (operator_of op) ≡ Conversion }
+        requires below { NamesBelow (length self.old.nodes.items) value }
+        ensures grows { OnOk result (Grows self.old self.new) }
+        ensures means { IfOk result (λ o. MeansOption self.new.nodes.items o
+            (converted (conversion (operator_of op)) (value_in (terms_of self.old.nodes.items) value ∷ []))) }
+    {
+        if !is_reference(value) {
+            return Ok(None);
+        }
+        if let Some(known) = known_conversion(&self.nodes, op, value) {
+            return Ok(Some(known));
+        }
+        Ok(Some(self.push_node(op, &[value])?))
+    }
+
+    /// The one argument of a conversion, converted.
+    pub(crate) fn convert(
+        &mut self,
+        op: ConstOp,
+        args: &[Value],
+    ) -> Result<Option<Value>, OutOfMemory>
+        requires sound { IsSound self.old }
+        requires conversion { kind_of (operator_of op) ≡ Conversion }
+        requires below { All (NamesBelow (length self.old.nodes.items)) args.now }
+        ensures grows { OnOk result (Grows self.old self.new) }
+        ensures means { IfOk result (λ o. MeansOption self.new.nodes.items o
+            (converted (conversion (operator_of op)) (values_in (terms_of self.old.nodes.items) args.now))) }
+    {
+        match args {
+            [value] => self.convert_one(op, *value),
+            _ => Ok(None),
+        }
     }
 }

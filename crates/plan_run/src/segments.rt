@@ -7,24 +7,18 @@ ghost use Rattle.wasm_index.specs.Index.{number_of};
 ghost use Rattle.wasm_convert.specs.Constants.{expression_of};
 ghost use Rattle.replay_spec.specs.Phases.{Phase};
 ghost use Rattle.replay_spec.specs.Plan.{planned_piece};
-ghost use Rattle.replay_spec.specs.Values.{offset_over};
 ghost use Rattle.init_plan.specs.Views.{memory_plan_of, planned_offset_of, processed_of, IsProcessed};
-ghost use Rattle.plan_run.specs.Fields.{field_count_in};
+ghost use Rattle.plan_run.specs.Evaluation.{place_of, IsSound, Grows};
 ghost use Rattle.plan_run.specs.Lays.{Lays, Hold};
 ghost use Rattle.plan_run.specs.Memories.{bytes_in, plan_phase, left_place, data_piece};
-ghost use Rattle.plan_run.specs.Nodes.{Grows};
 ghost use Rattle.plan_run.specs.Segments.{left_piece, left_pieces, WritesPiece, LendAfter, LendOn};
-ghost use Rattle.plan_run.specs.Values.{values_in, terms_of, NamesBelow, AreOrdered};
 
-use crate::evaluation::offset_of;
+use crate::evaluation::Evaluator;
 use crate::laid::Way;
 use crate::memories::bytes_of;
-use crate::value::{Node, Value};
 use entity_map::{EntityRef, OutOfMemory};
-use init_plan::{MemoryInit, MemorySegmentOffset, ModuleTranslation};
-use module_types::ModuleTypes;
+use init_plan::{MemoryInit, MemorySegmentOffset};
 use paged_memory::PagedMemory;
-use std::alloc::Global;
 
 /// Bytes that are to be written to a memory from a place on.
 #[derive(Drop)]
@@ -32,34 +26,6 @@ pub(crate) struct DataPiece<'t> {
     pub(crate) memory: usize,
     pub(crate) place: u64,
     pub(crate) bytes: &'t [u8],
-}
-
-/// Where a segment is written; nowhere where memories are mapped and it is an image.
-fn place_left(
-    alloc: Global,
-    translation: &ModuleTranslation<'_>,
-    types: &ModuleTypes,
-    way: Way,
-    globals: &[Value],
-    nodes: &mut Vec<Node>,
-    offset: &MemorySegmentOffset,
-) -> Result<Option<u64>, OutOfMemory>
-    requires ordered { AreOrdered nodes.old.items }
-    requires globals { All (NamesBelow (length nodes.old.items)) globals.now }
-    ensures grows { OnOk result (Grows nodes.old.items nodes.new.items) }
-    ensures place { IfOk result (λ place. place ≡ left_place way
-        (offset_over (values_in (terms_of nodes.old.items) globals.now) (field_count_in translation.now types.now)) (planned_offset_of offset.now)) }
-{
-    match offset {
-        MemorySegmentOffset::Expr(e) => {
-            let place = offset_of(alloc, translation, types, globals, nodes, e)?;
-            Ok(Some(place))
-        }
-        MemorySegmentOffset::Static(place) => match way {
-            Way::Map => Ok(None),
-            Way::Copy => Ok(Some(*place)),
-        },
-    }
 }
 
 /// Appends a piece, where there is a place for it.
@@ -82,37 +48,53 @@ fn push_piece<'t>(
     Ok(())
 }
 
-/// What is left to be written of the data segments, in order.
-pub(crate) fn pieces_left<'t>(
-    alloc: Global,
-    translation: &'t ModuleTranslation<'_>,
-    types: &ModuleTypes,
-    way: Way,
-    globals: &[Value],
-    nodes: &mut Vec<Node>,
-) -> Result<Vec<DataPiece<'t>>, OutOfMemory>
-    requires ordered { AreOrdered nodes.old.items }
-    requires globals { All (NamesBelow (length nodes.old.items)) globals.now }
-    requires processed { IsProcessed translation.now.memory_init }
-    ensures grows { OnOk result (Grows nodes.old.items nodes.new.items) }
-    ensures pieces { IfOk result (λ pieces. map data_piece pieces.items ≡ left_pieces way
-        (offset_over (values_in (terms_of nodes.old.items) globals.now) (field_count_in translation.now types.now))
-        (memory_plan_of translation.now) (processed_of translation.now.memory_init)) }
-{
-    let mut pieces = Vec::new(alloc);
-    let MemoryInit::Processed(segments) = &translation.memory_init else {
-        return Ok(pieces);
-    };
-    for (memory, offset, index) in segments {
-        let place = place_left(alloc, translation, types, way, globals, nodes, offset)?;
-        push_piece(
-            &mut pieces,
-            memory.index(),
-            place,
-            bytes_of(translation, *index),
-        )?;
+impl<'t> Evaluator<'t, '_, '_> {
+    /// Where a segment is written; nowhere where memories are mapped and it is an image.
+    fn place_left(
+        &mut self,
+        way: Way,
+        offset: &MemorySegmentOffset,
+    ) -> Result<Option<u64>, OutOfMemory>
+        requires sound { IsSound self.old }
+        ensures grows { OnOk result (Grows self.old self.new) }
+        ensures place { IfOk result (λ place. place ≡ left_place way (place_of self.old) (planned_offset_of offset.now)) }
+    {
+        match offset {
+            MemorySegmentOffset::Expr(e) => {
+                let place = self.offset_of(e)?;
+                Ok(Some(place))
+            }
+            MemorySegmentOffset::Static(place) => match way {
+                Way::Map => Ok(None),
+                Way::Copy => Ok(Some(*place)),
+            },
+        }
     }
-    Ok(pieces)
+
+    /// What is left to be written of the data segments, in order.
+    pub(crate) fn pieces_left(&mut self, way: Way) -> Result<Vec<DataPiece<'t>>, OutOfMemory>
+        requires sound { IsSound self.old }
+        requires processed { IsProcessed self.old.translation.now.memory_init }
+        ensures grows { OnOk result (Grows self.old self.new) }
+        ensures pieces { IfOk result (λ pieces. map data_piece pieces.items
+            ≡ left_pieces way (place_of self.old) (memory_plan_of self.old.translation.now) (processed_of self.old.translation.now.memory_init)) }
+    {
+        let translation = self.translation;
+        let mut pieces = Vec::new(self.alloc);
+        let MemoryInit::Processed(segments) = &translation.memory_init else {
+            return Ok(pieces);
+        };
+        for (memory, offset, index) in segments {
+            let place = self.place_left(way, offset)?;
+            push_piece(
+                &mut pieces,
+                memory.index(),
+                place,
+                bytes_of(translation, *index),
+            )?;
+        }
+        Ok(pieces)
+    }
 }
 
 /// Whether so many items from a place on lie within a size.

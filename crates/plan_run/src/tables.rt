@@ -6,16 +6,14 @@ ghost use Rattle.replay_spec.specs.Tables.{PlannedTable, reference_of};
 ghost use Rattle.replay_spec.specs.Values.{Term};
 ghost use Rattle.table_images.specs.Views.{cell_of as image_cell, image_of};
 ghost use Rattle.init_plan.specs.Tables.{plan_of_tables, AreCounted};
-ghost use Rattle.plan_run.specs.Fields.{field_count_in};
-ghost use Rattle.plan_run.specs.Nodes.{Grows, AllMean};
+ghost use Rattle.plan_run.specs.Evaluation.{globals_of, fields_of, IsSound, Grows};
+ghost use Rattle.plan_run.specs.Nodes.{AllMean};
 ghost use Rattle.plan_run.specs.Tables.{first_cells, image_cells as the_cells, TablesMean};
-ghost use Rattle.plan_run.specs.Values.{value_in, values_in, terms_of, imported_value, IsPlain, NamesBelow, AreOrdered};
+ghost use Rattle.plan_run.specs.Values.{value_in, values_in, imported_value, IsPlain};
 
-use crate::evaluation::evaluate;
-use crate::value::{Node, Value};
+use crate::evaluation::Evaluator;
+use crate::value::Value;
 use entity_map::{OutOfMemory, ReservedValue};
-use init_plan::ModuleTranslation;
-use module_types::ModuleTypes;
 use std::alloc::Global;
 use wasm_index::FuncIndex;
 use wasm_module::TableInitialValue;
@@ -67,66 +65,55 @@ pub(crate) fn minimum_of(tables: &[Table], at: usize) -> u64
     tables[at].limits.min
 }
 
-/// A defined table as it begins, by its number among those.
-fn first_table(
-    alloc: Global,
-    translation: &ModuleTranslation<'_>,
-    types: &ModuleTypes,
-    globals: &[Value],
-    nodes: &mut Vec<Node>,
-    number: usize,
-) -> Result<Vec<Value>, OutOfMemory>
-    requires ordered { AreOrdered nodes.old.items }
-    requires globals { All (NamesBelow (length nodes.old.items)) globals.now }
-    requires imports { translation.now.module.num_imported_tables ≤ length translation.now.module.tables }
-    requires counted { AreCounted translation.now }
-    requires images { All (λ table. length table.image ≤ table.minimum) (plan_of_tables translation.now).tables }
-    requires within { translation.now.module.num_imported_tables + number < length translation.now.module.tables }
-    ensures grows { OnOk result (Grows nodes.old.items nodes.new.items) }
-    ensures means { IfOk result (λ cells. (planned : PlannedTable) → slice_get (plan_of_tables translation.now).tables number ≡ Some planned
-        → AllMean nodes.new.items cells.items
-        (first_cells (values_in (terms_of nodes.old.items) globals.now) (field_count_in translation.now types.now) planned)) }
-{
-    let module = &translation.module;
-    let tables = module.tables.as_slice();
-    let minimum = minimum_of(tables, module.num_imported_tables + number) as usize;
-    match &translation.table_initialization.initial_values.as_slice()[number] {
-        TableInitialValue::Null => {
-            let image = &module.table_initialization.as_slice()[number];
-            let cells = image_cells(alloc, image, minimum)?;
-            Ok(cells)
-        }
-        TableInitialValue::Expr(initial) => {
-            let value = evaluate(alloc, translation, types, globals, nodes, initial)?;
-            let cells = equal_cells(alloc, value, minimum)?;
-            Ok(cells)
+impl Evaluator<'_, '_, '_> {
+    /// A defined table as it begins, by its number among those.
+    fn first_table(&mut self, number: usize) -> Result<Vec<Value>, OutOfMemory>
+        requires sound { IsSound self.old }
+        requires imports { self.old.translation.now.module.num_imported_tables ≤ length self.old.translation.now.module.tables }
+        requires counted { AreCounted self.old.translation.now }
+        requires images { All (λ table. length table.image ≤ table.minimum) (plan_of_tables self.old.translation.now).tables }
+        requires within { self.old.translation.now.module.num_imported_tables + number < length self.old.translation.now.module.tables }
+        ensures grows { OnOk result (Grows self.old self.new) }
+        ensures means { IfOk result (λ cells. (planned : PlannedTable) → slice_get (plan_of_tables self.old.translation.now).tables number ≡ Some planned
+            → AllMean self.new.nodes.items cells.items (first_cells (globals_of self.old) (fields_of self.old) planned)) }
+    {
+        let translation = self.translation;
+        let module = &translation.module;
+        let tables = module.tables.as_slice();
+        let minimum = minimum_of(tables, module.num_imported_tables + number) as usize;
+        match &translation.table_initialization.initial_values.as_slice()[number] {
+            TableInitialValue::Null => {
+                let image = &module.table_initialization.as_slice()[number];
+                let cells = image_cells(self.alloc, image, minimum)?;
+                Ok(cells)
+            }
+            TableInitialValue::Expr(initial) => {
+                let value = self.evaluate(initial)?;
+                let cells = equal_cells(self.alloc, value, minimum)?;
+                Ok(cells)
+            }
         }
     }
-}
 
-/// The imported tables, and behind them the defined ones as they begin.
-pub(crate) fn first_tables(
-    alloc: Global,
-    translation: &ModuleTranslation<'_>,
-    types: &ModuleTypes,
-    imported: Vec<Vec<Value>>,
-    globals: &[Value],
-    nodes: &mut Vec<Node>,
-) -> Result<Vec<Vec<Value>>, OutOfMemory>
-    requires ordered { AreOrdered nodes.old.items }
-    requires globals { All (NamesBelow (length nodes.old.items)) globals.now }
-    requires plain { All (λ table. All IsPlain table.items) imported.items }
-    requires imports { translation.now.module.num_imported_tables ≤ length translation.now.module.tables }
-    requires counted { AreCounted translation.now }
-    requires images { All (λ table. length table.image ≤ table.minimum) (plan_of_tables translation.now).tables }
-    ensures grows { OnOk result (Grows nodes.old.items nodes.new.items) }
-    ensures means { IfOk result (λ tables. TablesMean nodes.new.items tables.items (map (λ table. map imported_value table.items) imported.items
-        ++ map (first_cells (values_in (terms_of nodes.old.items) globals.now) (field_count_in translation.now types.now)) (plan_of_tables translation.now).tables)) }
-{
-    let mut tables = imported;
-    let count = translation.module.tables.len() - translation.module.num_imported_tables;
-    for number in 0..count {
-        tables.push(first_table(alloc, translation, types, globals, nodes, number)?)?;
+    /// The imported tables, and behind them the defined ones as they begin.
+    pub(crate) fn first_tables(
+        &mut self,
+        imported: Vec<Vec<Value>>,
+    ) -> Result<Vec<Vec<Value>>, OutOfMemory>
+        requires sound { IsSound self.old }
+        requires plain { All (λ table. All IsPlain table.items) imported.items }
+        requires imports { self.old.translation.now.module.num_imported_tables ≤ length self.old.translation.now.module.tables }
+        requires counted { AreCounted self.old.translation.now }
+        requires images { All (λ table. length table.image ≤ table.minimum) (plan_of_tables self.old.translation.now).tables }
+        ensures grows { OnOk result (Grows self.old self.new) }
+        ensures means { IfOk result (λ tables. TablesMean self.new.nodes.items tables.items (map (λ table. map imported_value table.items) imported.items
+            ++ map (first_cells (globals_of self.old) (fields_of self.old)) (plan_of_tables self.old.translation.now).tables)) }
+    {
+        let module = &self.translation.module;
+        let mut tables = imported;
+        for number in 0..module.tables.len() - module.num_imported_tables {
+            tables.push(self.first_table(number)?)?;
+        }
+        Ok(tables)
     }
-    Ok(tables)
 }

@@ -2,88 +2,75 @@
 
 ghost use Rattle.std.specs.Prelude.{◌≡◌, ◌↔◌, ◌⊎◌, ◌++◌, ◌≤◌, ◌<◌, ◌^◌, length, map, All, IfOk, OnOk};
 ghost use Rattle.std.specs.declared.result.Result.TheVariants.{Err};
-ghost use Rattle.plan_run.specs.Finished.{Finished};
+ghost use Rattle.plan_run.specs.Finished.{Finished, TablesAreFinished};
+ghost use Rattle.plan_run.specs.Evaluation.{globals_of, fields_of, place_of, IsSound, Grows};
 ghost use Rattle.plan_run.specs.Laid.{data_phase, GlobalsAreLaid, MemoriesAreLaid, TablesAreLaid, NamesNodes, PagesAreLent, LendImages};
 ghost use Rattle.plan_run.specs.Limits.{IsTooLarge};
 ghost use Rattle.plan_run.specs.Lays.{Lays};
 ghost use Rattle.plan_run.specs.Memories.{bytes_in, plan_phase};
-ghost use Rattle.plan_run.specs.Nodes.{Grows};
 ghost use Rattle.plan_run.specs.Tables.{cells_in, TablesBelow};
-ghost use Rattle.plan_run.specs.Values.{values_in, terms_of, imported_value, IsPlain, NamesBelow, AreOrdered};
-ghost use Rattle.plan_run.specs.Fields.{field_count_in};
+ghost use Rattle.plan_run.specs.Values.{terms_of, imported_value, IsPlain, AreOrdered};
 ghost use Rattle.init_plan.specs.Views.{memory_plan_of};
 ghost use Rattle.init_plan.specs.Tables.{plan_of_tables};
 ghost use Rattle.replay_spec.specs.Tables.{planned_elements_phase};
-ghost use Rattle.replay_spec.specs.Values.{offset_over};
 
-use crate::elements::{pieces_kept, write_elements};
-use crate::globals::lay_globals;
+use crate::elements::write_elements;
+use crate::evaluation::Evaluator;
 use crate::laid::{Imports, Laid, LayError, Way};
 use crate::limits::is_too_large;
 use crate::memories::first_memories;
-use crate::segments::{pieces_left, write_pieces};
-use crate::tables::first_tables;
-use crate::value::{Node, Value};
+use crate::segments::write_pieces;
+use crate::value::Value;
 use entity_map::OutOfMemory;
 use init_plan::ModuleTranslation;
 use module_types::ModuleTypes;
 use paged_memory::PagedMemory;
 use std::alloc::Global;
 
-/// The memories with the data phase, up to its trap.
-fn lay_memories<'t>(
-    alloc: Global,
-    translation: &'t ModuleTranslation<'_>,
-    types: &ModuleTypes,
-    way: Way,
-    imported: Vec<PagedMemory<'t>>,
-    globals: &[Value],
-    nodes: &mut Vec<Node>,
-) -> Result<(Vec<PagedMemory<'t>>, Option<u64>), OutOfMemory>
-    requires finished { Finished translation.now }
-    requires small { IsTooLarge translation.now → ⊥ }
-    requires imports { length imported.items ≡ translation.now.module.num_imported_memories }
-    requires ordered { AreOrdered nodes.old.items }
-    requires globals { All (NamesBelow (length nodes.old.items)) globals.now }
-    ensures grows { OnOk result (Grows nodes.old.items nodes.new.items) }
-    ensures laid { IfOk result (λ laid. Lays (plan_phase way
-        (offset_over (values_in (terms_of nodes.old.items) globals.now) (field_count_in translation.now types.now)) (bytes_in imported.entry.items)
-        (memory_plan_of translation.now)) (length translation.now.module.memories) (bytes_in laid.0.items) laid.1) }
-    ensures lent { IfOk result (λ laid. PagesAreLent translation.now way (plan_phase way
-        (offset_over (values_in (terms_of nodes.old.items) globals.now) (field_count_in translation.now types.now)) (bytes_in imported.entry.items)
-        (memory_plan_of translation.now)) imported.entry.items laid.0.items) }
-    ensures shared { IfOk result (λ laid. LendImages translation.now way laid.0.items) }
-{
-    let mut memories = first_memories(alloc, translation, way, imported)?;
-    let pieces = pieces_left(alloc, translation, types, way, globals, nodes)?;
-    let trap = write_pieces(&mut memories, &pieces)?;
-    Ok((memories, trap))
-}
+impl<'t> Evaluator<'t, '_, '_> {
+    /// The memories with the data phase, up to its trap.
+    fn lay_memories(
+        &mut self,
+        way: Way,
+        imported: Vec<PagedMemory<'t>>,
+    ) -> Result<(Vec<PagedMemory<'t>>, Option<u64>), OutOfMemory>
+        requires sound { IsSound self.old }
+        requires finished { Finished self.old.translation.now }
+        requires small { IsTooLarge self.old.translation.now → ⊥ }
+        requires imports { length imported.items ≡ self.old.translation.now.module.num_imported_memories }
+        ensures grows { OnOk result (Grows self.old self.new) }
+        ensures laid { IfOk result (λ laid. Lays (plan_phase way (place_of self.old) (bytes_in imported.entry.items) (memory_plan_of self.old.translation.now))
+            (length self.old.translation.now.module.memories) (bytes_in laid.0.items) laid.1) }
+        ensures lent { IfOk result (λ laid. PagesAreLent self.old.translation.now way
+            (plan_phase way (place_of self.old) (bytes_in imported.entry.items) (memory_plan_of self.old.translation.now)) imported.entry.items laid.0.items) }
+        ensures shared { IfOk result (λ laid. LendImages self.old.translation.now way laid.0.items) }
+    {
+        let mut memories = first_memories(self.alloc, self.translation, way, imported)?;
+        let pieces = self.pieces_left(way)?;
+        let trap = write_pieces(&mut memories, &pieces)?;
+        Ok((memories, trap))
+    }
 
-/// The tables with the element phase, up to its trap.
-fn lay_tables(
-    alloc: Global,
-    translation: &ModuleTranslation<'_>,
-    types: &ModuleTypes,
-    imported: Vec<Vec<Value>>,
-    globals: &[Value],
-    nodes: &mut Vec<Node>,
-) -> Result<(Vec<Vec<Value>>, Option<u64>), OutOfMemory>
-    requires finished { Finished translation.now }
-    requires imports { length imported.items ≡ translation.now.module.num_imported_tables }
-    requires plain { All (λ table. All IsPlain table.items) imported.items }
-    requires ordered { AreOrdered nodes.old.items }
-    requires globals { All (NamesBelow (length nodes.old.items)) globals.now }
-    ensures grows { OnOk result (Grows nodes.old.items nodes.new.items) }
-    ensures laid { IfOk result (λ laid. Lays (planned_elements_phase (values_in (terms_of nodes.old.items) globals.now)
-        (field_count_in translation.now types.now) (map (λ table. map imported_value table.items) imported.items) (plan_of_tables translation.now))
-        (length translation.now.module.tables) (cells_in (terms_of nodes.new.items) laid.0.items) laid.1) }
-    ensures below { IfOk result (λ laid. TablesBelow (length nodes.new.items) laid.0.items) }
-{
-    let mut tables = first_tables(alloc, translation, types, imported, globals, nodes)?;
-    let pieces = pieces_kept(alloc, translation, types, globals, nodes)?;
-    let trap = write_elements(&mut tables, &pieces);
-    Ok((tables, trap))
+    /// The tables with the element phase, up to its trap.
+    fn lay_tables(
+        &mut self,
+        imported: Vec<Vec<Value>>,
+    ) -> Result<(Vec<Vec<Value>>, Option<u64>), OutOfMemory>
+        requires sound { IsSound self.old }
+        requires finished { TablesAreFinished self.old.translation.now }
+        requires imports { length imported.items ≡ self.old.translation.now.module.num_imported_tables }
+        requires plain { All (λ table. All IsPlain table.items) imported.items }
+        ensures grows { OnOk result (Grows self.old self.new) }
+        ensures laid { IfOk result (λ laid. Lays (planned_elements_phase (globals_of self.old) (fields_of self.old)
+            (map (λ table. map imported_value table.items) imported.items) (plan_of_tables self.old.translation.now))
+            (length self.old.translation.now.module.tables) (cells_in (terms_of self.new.nodes.items) laid.0.items) laid.1) }
+        ensures below { IfOk result (λ laid. TablesBelow (length self.new.nodes.items) laid.0.items) }
+    {
+        let mut tables = self.first_tables(imported)?;
+        let pieces = self.pieces_kept()?;
+        let trap = write_elements(&mut tables, &pieces);
+        Ok((tables, trap))
+    }
 }
 
 /// Lays a plan whose memories and tables are not too large.
@@ -110,30 +97,14 @@ fn lay_all<'t>(
         imports.entry.memories.items laid.memories.items) }
     ensures shared { IfOk result (λ laid. LendImages translation.now way laid.memories.items) }
 {
-    let mut nodes = Vec::new(alloc);
-    let globals = lay_globals(alloc, translation, types, imports.globals, &mut nodes)?;
-    let (memories, memory_trap) = lay_memories(
-        alloc,
-        translation,
-        types,
-        way,
-        imports.memories,
-        &globals,
-        &mut nodes,
-    )?;
-    let (tables, table_trap) = lay_tables(
-        alloc,
-        translation,
-        types,
-        imports.tables,
-        &globals,
-        &mut nodes,
-    )?;
+    let mut evaluator = Evaluator::with_globals(alloc, translation, types, imports.globals)?;
+    let (memories, memory_trap) = evaluator.lay_memories(way, imports.memories)?;
+    let (tables, table_trap) = evaluator.lay_tables(imports.tables)?;
     Ok(Laid {
-        globals,
+        globals: evaluator.globals,
         memories,
         tables,
-        nodes,
+        nodes: evaluator.nodes,
         memory_trap,
         table_trap,
     })
