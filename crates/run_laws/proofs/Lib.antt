@@ -9,9 +9,4 @@ pub mod FieldCounts
 pub mod ModuleFields
 pub mod LaidWhole
 mod OptionsAlike
-mod DataBytes
-mod ImagesTotal
-mod EntryCounts
-mod CellCounts
-mod Costs
 mod WorkedValid

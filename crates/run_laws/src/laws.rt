@@ -24,7 +24,7 @@ ghost use Rattle.plan_run.specs.Agreement.{HasFieldsOf, IsOfModule};
 ghost use Rattle.plan_run.specs.Finished.{Finished};
 ghost use Rattle.plan_run.specs.Laid.{GlobalsAreLaid, MemoriesAreLaid, TablesAreLaid};
 ghost use Rattle.run_laws.specs.Alike.{BeginAlike};
-ghost use Rattle.run_laws.specs.Costs.{CostsAtMost};
+ghost use Rattle.translate.specs.Costs.{CostsAtMost};
 ghost use Rattle.run_laws.specs.Planned.{MemoriesArePlanned, TablesArePlanned, GainsStartup, AreImportsOf};
 
 use init_plan::held_agreement_laws;
@@ -75,8 +75,9 @@ pub fn options_law()
 {}
 
 /// What a plan can cost, by the bytes of the module and the options alone: each entry has a byte of
-/// the module; images and segments have at most twice the module's bytes, and for each defined
-/// memory `max_image` and two pages; an image of a table has at most 1,048,576 cells.
+/// the module; a byte has at most two interned types; images and segments have at most twice the
+/// module's bytes, and for each defined memory `max_image` and two pages; an image of a table has
+/// at most 1,048,576 cells.
 pub fn costs_law()
-    ensures { (o : Options) (bytes : List ℕ) (plan : Plan) → IsPlanned o bytes plan → CostsAtMost o.init bytes plan.translation }
+    ensures { (o : Options) (bytes : List ℕ) (plan : Plan) → IsPlanned o bytes plan → CostsAtMost o.init bytes plan }
 {}

@@ -14,3 +14,9 @@ mod Planning
 mod Printable
 mod WholeInput
 mod Causes
+pub mod FewTypes
+mod DataBytes
+mod ImagesTotal
+mod EntryCounts
+mod CellCounts
+pub mod Costs

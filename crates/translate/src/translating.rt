@@ -3,7 +3,8 @@
 ghost use Rattle.std.specs.Prelude.{◌≡◌, ◌⊎◌, ◌^◌, ◌≤◌, length, Err, IfOk, IfErr};
 ghost use Rattle.std.specs.Int.{IsPowerOfTwo};
 ghost use Rattle.plan_text.specs.PlanText.{IsPrintable};
-ghost use Rattle.translate.specs.Options.{with_options};
+ghost use Rattle.translate.specs.Costs.{CostsAtMost};
+ghost use Rattle.translate.specs.Options.{with_options, init_options};
 ghost use Rattle.translate.specs.Valid.{IsValid};
 ghost use Rattle.translate.specs.Planned.{IsPlanned, HasCause, SucceedsOrNoMemory};
 
@@ -41,6 +42,8 @@ pub fn translate_module<'d>(
     ensures planned { IfOk result (IsPlanned (with_options tunables.now collector ptr page_size max_image) bytes.now) }
     // So the text of the plan can be made.
     ensures printable { IfOk result (λ plan. IsPrintable plan.translation) }
+    // What it costs is bounded by the bytes and the options.
+    ensures costs { IfOk result (CostsAtMost (init_options tunables.now page_size max_image) bytes.now) }
 
     // Each refusal has its cause; length goes first.
     ensures cause { IfErr result (HasCause (with_options tunables.now collector ptr page_size max_image) bytes.now) }

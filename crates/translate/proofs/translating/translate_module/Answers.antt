@@ -1,6 +1,7 @@
 use Rattle.std.proofs.Common.{◌≡◌, true, false, ◌∙◌, Err, refl, ap}
 use Rattle.std.proofs.lemmas.Result.{err_from_is_err_and}
 use Rattle.translate.specs.Options.{with_options}
+use Rattle.translate.proofs.Costs.{costs}
 use Rattle.translate.proofs.Counts.{holds_imports, counts_same, few_escape}
 use Rattle.translate.proofs.PlansFit.{valid-begins, valid-fits}
 use Rattle.translate.proofs.Printable.{is_printable}
@@ -71,6 +72,11 @@ returns-in-Ok-new-clause-planned c =
         sizes = sizes-fit o init c.finish-types.ensures.built c.in-Ok.ensures.fits (λ large. let e : false ≡ true = c.in-Ok-new.ensures.overflow.1 large in cc);
       };
     }
+
+pub returns-in-Ok-new-clause-costs : goal.returns-in-Ok-new-clause-costs
+returns-in-Ok-new-clause-costs c =
+    let o = with_options c.args.tunables.now c.args.collector c.args.ptr c.args.page_size c.args.max_image in
+    costs o _ _ (returns-in-Ok-new-clause-planned c)
 
 pub returns-in-Ok-new-clause-printable : goal.returns-in-Ok-new-clause-printable
 returns-in-Ok-new-clause-printable c = is_printable c.in_ok-translation.ensures.initialised.initialised

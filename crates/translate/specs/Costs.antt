@@ -4,13 +4,14 @@ use Rattle.replay_spec.specs.Tables.{most_cells}
 use Rattle.init_plan.specs.declared.translation.ModuleTranslation.{ModuleTranslation}
 use Rattle.init_plan.specs.Views.{memory_plan_of}
 use Rattle.init_plan.specs.Tables.{plan_of_tables}
+use Rattle.plan.specs.declared.plan.Plan.{Plan}
 use Rattle.translate.specs.Options.{InitOptions}
 
 -- how many entries these lists of a translation have in sum: the index spaces, exports, element
 -- segments that are kept or passive, and bodies
 abbrev pub entries_of : ModuleTranslation → ℕ
 entries_of t =
-    length t.module.functions + length t.module.tables + length t.module.memories + length t.module.globals + length t.module.tags
+    length t.module.types + length t.module.functions + length t.module.tables + length t.module.memories + length t.module.globals + length t.module.tags
     + length t.module.exports.entries + length t.table_initialization.segments.items + length t.passive_elements + length t.function_body_inputs
 
 -- the most bytes that images, kept segments and passive segments have together: twice the module's,
@@ -18,11 +19,14 @@ entries_of t =
 abbrev pub most_data : InitOptions → ℕ → ℕ → ℕ
 most_data i bytes memories = 2 * bytes + memories * (i.max_image + 2 * i.page_size)
 
-pub record CostsAtMost (i : InitOptions) (bytes : List ℕ) (t : ModuleTranslation) : Type 0 where
+pub record CostsAtMost (i : InitOptions) (bytes : List ℕ) (plan : Plan) : Type 0 where
   -- each entry has a byte of the module to itself
-  pub entries : entries_of t ≤ length bytes
-  -- so has each of the runtime data
-  pub data_count : length (memory_plan_of t).runtime ≤ length bytes
-  pub data_bytes : sum_by length (memory_plan_of t).runtime ≤ most_data i (length bytes) (length (memory_plan_of t).sizes)
+  pub entries : entries_of plan.translation ≤ length bytes
+  -- a declared type may have a trampoline's type beside it
+  pub types : length plan.types.types ≤ 2 * length bytes
+  -- each of the runtime data has a byte of the module to itself
+  pub data_count : length (memory_plan_of plan.translation).runtime ≤ length bytes
+  pub data_bytes : sum_by length (memory_plan_of plan.translation).runtime
+      ≤ most_data i (length bytes) (length (memory_plan_of plan.translation).sizes)
   -- no image of a table has more cells than the largest
-  pub cells : All (λ table. length table.image ≤ most_cells) (plan_of_tables t).tables
+  pub cells : All (λ table. length table.image ≤ most_cells) (plan_of_tables plan.translation).tables

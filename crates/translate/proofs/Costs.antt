@@ -8,7 +8,7 @@ use Rattle.std.proofs.lemmas.List.Sums.{sum_by-append, sum_by-cons}
 use Rattle.wasm_spec.specs.Module as plain
 use Rattle.wasm_spec.specs.Module.{Segment, TableDef, GlobalDef}
 use Rattle.wasm_spec.specs.Grammar.{header}
-use Rattle.rule_spec.specs.Lists.{lists_of_module}
+use Rattle.rule_spec.specs.Rules.{Keeps}
 use Rattle.wasm_index.specs.Index.{number_of}
 use Rattle.wasm_types.specs.EntityViews.{global_of, table_of}
 use Rattle.wasm_types.specs.Memories.{memory_of}
@@ -19,23 +19,29 @@ use Rattle.replay_spec.specs.Startup.{passive_elements}
 use Rattle.replay_spec.specs.Images.{ImageMemory, image_memory_of, size_of, MemoryImage, image_bytes, bytes_on, data_size, written_on, IsImage, IsPlaced, PlansImages, PlansSegments}
 use Rattle.replay_spec.proofs.Placed.{all-at, covers-nonzero}
 use Rattle.form_data.specs.Views.{body_of}
-use Rattle.form_reader.proofs.Entries.{sections_few, imported_few}
+use Rattle.form_reader.proofs.Entries.{sections_few, imported_few, total_members}
 use Rattle.init_plan.specs.declared.translation.ModuleTranslation.{ModuleTranslation}
 use Rattle.init_plan.specs.Views.{memory_plan_of}
 use Rattle.init_plan.specs.Images.{HasTightImages}
 use Rattle.init_plan.specs.Tables.{plan_of_tables}
 use Rattle.module_environ.specs.Readable.{IsReadable}
 use Rattle.module_environ.specs.Initialisers.{view_segment, view_items, active_elements}
-use Rattle.module_environ.specs.Types.{look_up_in, type_index, declared}
-use Rattle.translate.specs.Options.{InitOptions, images, passive_bytes}
+use Rattle.module_types.specs.Views.{interned_of}
+use Rattle.module_types.proofs.NamingEarlier.{keeps-earlier}
+use Rattle.module_environ.specs.Types.{look_up_in}
+use Rattle.module_environ.proofs.DeclaredLooks.{listed-long}
+use Rattle.plan.specs.declared.plan.Plan.{Plan}
+use Rattle.translate.specs.Options.{InitOptions, Options, images, passive_bytes, startup_by, runs}
 use Rattle.translate.specs.Initialised.{IsInitialised, OnlyInitChanges}
-use Rattle.run_laws.specs.Costs.{entries_of, most_data, CostsAtMost}
-use Rattle.run_laws.proofs.DataBytes.{data-few}
-use Rattle.run_laws.proofs.ImagesTotal.{images-total}
-use Rattle.run_laws.proofs.EntryCounts.{kinds-few, elements-few, segments-few, bytes-few}
-use Rattle.run_laws.proofs.CellCounts.{cells-small}
+use Rattle.translate.specs.Planned.{IsPlanned}
+use Rattle.translate.specs.Costs.{entries_of, most_data, CostsAtMost}
+use Rattle.translate.proofs.FewTypes.{few-types}
+use Rattle.translate.proofs.DataBytes.{data-few}
+use Rattle.translate.proofs.ImagesTotal.{images-total}
+use Rattle.translate.proofs.EntryCounts.{kinds-few, elements-few, segments-few, bytes-few}
+use Rattle.translate.proofs.CellCounts.{cells-small}
 
-module _ (i : InitOptions) (bytes : List ℕ) (m : plain.Module) (read : IsReadable bytes m) (t : ModuleTranslation) (is : IsInitialised i bytes m t) where
+module _ (i : InitOptions) (bytes : List ℕ) (m : plain.Module) (read : IsReadable bytes m) (keeps : Keeps m) (t : ModuleTranslation) (is : IsInitialised i bytes m t) where
   abbrev old : ModuleTranslation
   old = is.rest.before
 
@@ -43,6 +49,10 @@ module _ (i : InitOptions) (bytes : List ℕ) (m : plain.Module) (read : IsReada
   same = is.rest.same
 
   -- ---- entries
+
+  types : length t.module.types ≡ length (plain.types m)
+  types = ap (λ (x : ModuleTranslation). length x.module.types) same
+      ∙ listed-long m (keeps-earlier m keeps) old.module.types is.rest.translation.types.declared
 
   functions : length t.module.functions ≡ length (plain.functions m)
   functions = ap (λ (x : ModuleTranslation). length x.module.functions) same ∙ ap length is.rest.translation.sections.escapes.functions
@@ -93,6 +103,8 @@ module _ (i : InitOptions) (bytes : List ℕ) (m : plain.Module) (read : IsReada
         arith,
         few,
         within,
+        total_members (plain.types m),
+        types,
         functions,
         tables,
         memories,
@@ -231,10 +243,16 @@ module _ (i : InitOptions) (bytes : List ℕ) (m : plain.Module) (read : IsReada
   size : sum_by length plan.runtime ≤ most_data i (length bytes) (length plan.sizes)
   size = rw sizes (⊎_elim image-size segment-size is.memories.plan.segments)
 
-  pub costs : CostsAtMost i bytes t
-  costs = record {
-    entries = entries;
-    data_count = count;
-    data_bytes = size;
-    cells = cells-small _ _ _ _ (plan_of_tables t) is.tables;
-  }
+pub costs : (o : Options) (bytes : List ℕ) (plan : Plan) → IsPlanned o bytes plan → CostsAtMost o.init bytes plan
+costs o bytes plan is =
+    let t = plan.translation in
+    let whole = is.planned.translation in
+    let types = is.planned.types.types in
+    record {
+      entries = entries o.init bytes is.meaning is.read is.keeps t whole;
+      types = let few = few-types bytes is.meaning is.read (runs (startup_by is.meaning (memory_plan_of t) (plan_of_tables t))) in
+          omega (arith, few, ap length types, length-map plan.types.types interned_of);
+      data_count = count o.init bytes is.meaning is.read is.keeps t whole;
+      data_bytes = size o.init bytes is.meaning is.read is.keeps t whole;
+      cells = cells-small _ _ _ _ (plan_of_tables t) whole.tables;
+    }
