@@ -15,3 +15,5 @@ pub mod Text
 pub mod Stops
 pub mod Refusals
 pub mod Runs
+pub mod Rows
+pub mod Records

@@ -1,22 +1,17 @@
--- Where passive data segments find their bytes is determined by the module and the runtime data.
+-- Where passive data segments find their bytes is determined by the module and the runtime data; maps find nothing past their entries.
 use Rattle.std.proofs.Common.{◌≡◌, ◌∙◌, ℕ, zero, suc, ◌+◌, ◌≤◌, List, [], ◌∷◌, ◌++◌, length, Option, None, Some, refl, sym, ap, subst, arith}
 use Rattle.std.specs.Prelude.{slice_get, unwrap_or}
-use Rattle.std.specs.List.{flat_map}
 use Rattle.std.specs.Option.{option_map, option_and_then}
 use Rattle.std.proofs.lemmas.Option.{slice_get_past, none-some}
-use Rattle.entity_map.specs.Keyed.{keyed_from}
 use Rattle.entity_map.specs.Secondary.{Defaulted, value_at}
 use Rattle.wasm_spec.specs.Module.{DataKind, Passive, Active, Segment}
 use Rattle.wasm_index.specs.declared.index.Index.{Index}
-use Rattle.wasm_index.specs.declared.spaces.DataSpace.{DataSpace}
+use Rattle.wasm_index.specs.declared.spaces.PassiveElemSpace.{PassiveElemSpace}
 use Rattle.wasm_index.specs.declared.spaces.RuntimeDataSpace.{RuntimeDataSpace}
-use Rattle.wasm_index.specs.Index.{number_of, index_of}
-use Rattle.wasm_types.specs.ViewsTell.{tells}
+use Rattle.wasm_index.specs.Index.{number_of}
 use Rattle.init_plan.specs.Views.{FindsInOrder}
 use Rattle.module_environ.specs.Initialisers.{passive_data_in, passive_data_from}
-use Rattle.plan_lines.specs.MemoryLines.{passive_lines}
 use Rattle.translate.specs.Initialised.{passive_bytes_of, Finds}
-use Rattle.plan_laws.proofs.Told.{index-back, option-back}
 
 -- ---- in order
 
@@ -60,7 +55,7 @@ module _ (runtime : List (List ℕ)) (f g : ℕ → Option ℕ) where
   found-same ss n a b c d index = found-by (option_and_then passive_bytes_of (slice_get ss index)) (f index) (g index) (c index) (d index)
       (λ bytes is. (let e : 0 + index ≡ index = omega arith in subst (λ (k : ℕ). f k ≡ g k) e (in-order ss 0 n a b index bytes is)))
 
--- ---- lines
+-- ---- what maps find past their entries
 
 -- past the segments nothing is found, so that a map says nothing of places that it does not have
 no-default : (runtime : List (List ℕ)) (found : Option ℕ) → Finds runtime found None → found ≡ None
@@ -82,23 +77,11 @@ module _ (runtime : List (List ℕ)) (ss : List Segment) (m : Defaulted (Option 
   pub default-none : m.default ≡ None
   default-none = none-mapped number_of m.default (past (length m.items + length ss) (omega arith) (omega arith))
 
-abbrev Found : Type 0
-Found = Option (Index RuntimeDataSpace)
-
-abbrev lines_from : ℕ → List Found → List ℕ
-lines_from start xs = flat_map (λ (p : Index DataSpace × Found). passive_lines p.0 p.1) (keyed_from index_of start xs)
-
-none-first : (start : ℕ) (x : Found) (xs : List Found) → x ≡ None → lines_from start (x ∷ xs) ≡ lines_from (start + 1) xs
-none-first start x xs none = ap (λ (o : Found). lines_from start (o ∷ xs)) none
-
--- lines are told by what is found at each place
-lines-at : (start : ℕ) (xs ys : List Found) → ((i : ℕ) → unwrap_or (slice_get xs i) None ≡ unwrap_or (slice_get ys i) None) → lines_from start xs ≡ lines_from start ys
-lines-at start [] [] same = refl
-lines-at start [] (y ∷ ys) same = lines-at (start + 1) [] ys (λ i. same (suc i)) ∙ sym (none-first start y ys (sym (same 0)))
-lines-at start (x ∷ xs) [] same = none-first start x xs (same 0) ∙ lines-at (start + 1) xs [] (λ i. same (suc i))
-lines-at start (x ∷ xs) (y ∷ ys) same = λ i. passive_lines (index_of start) (same 0 i) ++ lines-at (start + 1) xs ys (λ k. same (suc k)) i
-
-pub passive-lines : (m n : Defaulted Found) → m.default ≡ None → n.default ≡ None
-    → ((index : ℕ) → option_map number_of (value_at m index) ≡ option_map number_of (value_at n index)) → lines_from 0 m.items ≡ lines_from 0 n.items
-passive-lines m n a b same =
-    lines-at 0 m.items n.items (λ i. ap (unwrap_or (slice_get m.items i)) (sym a) ∙ tells (option-back index-back) (value_at m i) (value_at n i) (same i) ∙ ap (unwrap_or (slice_get n.items i)) b)
+-- so it is with the numbers of passive element segments
+pub numbers-default : (numbers : List (Option ℕ)) (m : Defaulted (Option (Index PassiveElemSpace)))
+    → ((index : ℕ) → option_map number_of (value_at m index) ≡ unwrap_or (slice_get numbers index) None) → m.default ≡ None
+numbers-default numbers m is =
+    let k = length m.items + length numbers in
+    let there : option_map number_of (value_at m k) ≡ None = is k ∙ ap (λ (o : Option (Option ℕ)). unwrap_or o None) (slice_get_past numbers k (omega arith)) in
+    none-mapped number_of m.default
+    (subst (λ (o : Option (Option (Index PassiveElemSpace))). option_map number_of (unwrap_or o m.default) ≡ None) (slice_get_past m.items k (omega arith)) there)

@@ -57,7 +57,7 @@ use Rattle.plan_laws.proofs.Globals.{values-told, names-told, locals-told}
 use Rattle.plan_laws.proofs.Memories.{begin-same, told-same, left-same, plan-no-null}
 use Rattle.plan_laws.proofs.Offsets.{held-plain}
 use Rattle.plan_laws.proofs.Parts.{SameMemories, SameTables, same-memories, same-tables}
-use Rattle.plan_laws.proofs.Passive.{found-same, default-none}
+use Rattle.plan_laws.proofs.Passive.{found-same, default-none, numbers-default}
 use Rattle.plan_laws.proofs.Rest.{HasRest, has-rest}
 use Rattle.plan_laws.proofs.Tables.{same-left, values-same, images-at, images-same, image-back}
 use Rattle.plan_laws.proofs.Told.{index-back, option-back, all-told}
@@ -276,6 +276,7 @@ module _ (one-startup : OneStartup) (one-context : OneContext) (o : Options) (by
       default-none (memory_plan_of u).runtime (plain.segments m) u.runtime_data_map are.memories.passive,
     );
     passive_data = passive;
+    no_number = (numbers-default _ t.passive_elem_map x.numbers, numbers-default _ u.passive_elem_map y.numbers);
     passive_numbers = λ index. tells (option-back index-back) _ _ (x.numbers index ∙ sym (y.numbers index));
     runtime_data = memories.runtime;
     start = tells (option-back index-back) _ _ (x.entities.start ∙ sym y.entities.start);

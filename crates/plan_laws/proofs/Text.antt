@@ -42,7 +42,7 @@ use Rattle.plan_lines.specs.Expressions.{expression_text}
 use Rattle.plan_lines.specs.GlobalLines.{global_line, global_expression_line}
 use Rattle.plan_lines.specs.HintLines.{hint_lines}
 use Rattle.plan_lines.specs.LayoutLines.{array_layout_line, fields_layout_line, layout_lines}
-use Rattle.plan_lines.specs.MemoryLines.{alignment_lines, runtime_line}
+use Rattle.plan_lines.specs.MemoryLines.{alignment_lines, passive_lines, runtime_line}
 use Rattle.plan_lines.specs.ModuleLines.{initializer_line, initializer_lines_from, count_lines, gc_heap_line, escape_lines, start_lines, startup_line}
 use Rattle.plan_lines.specs.NameLines.{entity_text, import_line, export_line, module_name_line, module_name_lines, function_name_line}
 use Rattle.plan_lines.specs.Numbers.{numbers_line, counts_line, keyed_lines}
@@ -53,8 +53,7 @@ use Rattle.plan_lines.specs.TypeLines.{declared_line, signature_line}
 use Rattle.plan_lines.specs.TypeListLines.{type_list_lines}
 use Rattle.plan_text.specs.PlanText.{entities_text, names_text, tables_text, memories_text, sizes_text, text_of_plan}
 use Rattle.plan_laws.specs.Same.{SameModule, SameTranslation, SamePlan, left_of}
-use Rattle.plan_laws.proofs.Passive.{passive-lines}
-use Rattle.plan_laws.proofs.Told.{lines-by, lines-told, keyed-told}
+use Rattle.plan_laws.proofs.Told.{lines-by, lines-told, keyed-told, found-told}
 
 -- ---- imports and exports, by the texts of their names
 
@@ -115,11 +114,11 @@ module _ (x y : Module) (same : SameModule x y) where
 
 -- ---- element segments
 
-items_count : Items → ℕ
+pub items_count : Items → ℕ
 items_count (FunctionItems functions) = length functions
 items_count (ExpressionItems type expressions) = length expressions
 
-count-by : (e : TableSegmentElements) → element_count e ≡ items_count (view_items e)
+pub count-by : (e : TableSegmentElements) → element_count e ≡ items_count (view_items e)
 unfolding items_count
 count-by (elements.Functions functions) = sym (length-map functions.items number_of)
 count-by (elements.Expressions ty expressions) = refl
@@ -215,7 +214,7 @@ module _ (t u : ModuleTranslation) (same : SameTranslation t u) where
       ++ alignment_lines (same.data_align i)
       ++ initialization_images (m.memory_initialization i)
       ++ segment-lines i
-      ++ passive-lines t.runtime_data_map u.runtime_data_map same.no_default.0 same.no_default.1 (λ index. ap (option_map number_of) (same.passive_data index)) i
+      ++ found-told index_of passive_lines (λ k. refl) t.runtime_data_map u.runtime_data_map same.no_default.0 same.no_default.1 same.passive_data i
       ++ runtime-lines i
 
 module _ (p q : Plan) (same : SamePlan p q) where

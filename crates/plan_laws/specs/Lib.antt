@@ -2,3 +2,4 @@ pub mod Causes
 pub mod Same
 pub mod Kept
 pub mod Runs
+pub mod Records

@@ -79,6 +79,7 @@ pub record SameTranslation (t u : ModuleTranslation) : Type 0 where
   -- where there is no entry nothing is found
   pub no_default : (t.runtime_data_map.default ≡ None) × (u.runtime_data_map.default ≡ None)
   pub passive_data : (index : ℕ) → value_at t.runtime_data_map index ≡ value_at u.runtime_data_map index
+  pub no_number : (t.passive_elem_map.default ≡ None) × (u.passive_elem_map.default ≡ None)
   pub passive_numbers : (index : ℕ) → value_at t.passive_elem_map index ≡ value_at u.passive_elem_map index
   pub runtime_data : map bytes_of t.runtime_data ≡ map bytes_of u.runtime_data
   pub start : t.start_func ≡ u.start_func

@@ -3,11 +3,14 @@
 ghost use Rattle.std.specs.Prelude.{◌≡◌, ◌≢◌, ◌⊎◌, ◌<◌, ◌≤◌, ◌^◌, ℕ, List, Option, Some, length, map, string_bytes};
 ghost use Rattle.plan.specs.declared.plan.Plan.{Plan};
 ghost use Rattle.plan.specs.declared.error.TranslateError.{TranslateError};
+ghost use Rattle.plan_tables.specs.declared.record.PlanRecord.{PlanRecord};
+ghost use Rattle.plan_tables.specs.Plan.{Tells};
 ghost use Rattle.plan_text.specs.PlanText.{text_of_plan};
 ghost use Rattle.translate.specs.Options.{Options};
 ghost use Rattle.translate.specs.Planned.{HasCause, IsPlanned};
 ghost use Rattle.translate.specs.Runs.{Commands, IsRefused, IsSuccess};
 ghost use Rattle.plan_laws.specs.Causes.{MayBothStand};
+ghost use Rattle.plan_laws.specs.Records.{TellAlike};
 ghost use Rattle.plan_laws.specs.Runs.{GainAlike};
 ghost use Rattle.plan_laws.specs.Same.{SamePlan};
 
@@ -17,10 +20,12 @@ use plan::{Plan, TranslateError};
 use translate::{causes_law, sizes_law};
 
 /// The plan is determined. Two plans of the same bytes, planned with the same options, have one
-/// text, and hold the same.
+/// text, and hold the same. Their tables are equal, but for which runtime data the plan made.
 pub fn determined_law(p: &Plan, q: &Plan)
     ensures text { (o : Options) (bytes : List ℕ) → IsPlanned o bytes p.now → IsPlanned o bytes q.now → text_of_plan p.now ≡ text_of_plan q.now }
     ensures same { (o : Options) (bytes : List ℕ) → IsPlanned o bytes p.now → IsPlanned o bytes q.now → SamePlan p.now q.now }
+    ensures tables { (o : Options) (bytes : List ℕ) (r s : PlanRecord) → IsPlanned o bytes p.now → IsPlanned o bytes q.now
+        → Tells p.now r → Tells q.now s → TellAlike q.now r s }
 {
     sizes_law();
     keeps(p);
