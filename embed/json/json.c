@@ -1,6 +1,6 @@
 /* json plan [OPTION].. < FILE.wasm : prints the plan of a module as one JSON object, out of the tables alone.
  *
- * README.md has the keys. The words and the exit status are those of the program dist/translate. */
+ * keys.txt has the keys. The words and the exit status are those of the program dist/translate. */
 #include "layouts.h"
 #include "values.h"
 
