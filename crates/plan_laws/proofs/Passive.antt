@@ -1,4 +1,5 @@
--- Where passive data segments find their bytes is determined by the module and the runtime data; maps find nothing past their entries.
+-- Where passive data segments find their bytes is determined by the module and the runtime data;
+-- maps find nothing past their entries.
 use Rattle.std.proofs.Common.{◌≡◌, ◌∙◌, ℕ, zero, suc, ◌+◌, ◌≤◌, List, [], ◌∷◌, ◌++◌, length, Option, None, Some, refl, sym, ap, subst, arith}
 use Rattle.std.specs.Prelude.{slice_get, unwrap_or}
 use Rattle.std.specs.Option.{option_map, option_and_then}
