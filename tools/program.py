@@ -133,7 +133,10 @@ def take_code(crate, room, to):
     folder.mkdir(exist_ok=True)
     how = {"cwd": crate, "env": {**os.environ, "TMPDIR": str(folder)}, "stdin": subprocess.DEVNULL, "stdout": subprocess.DEVNULL}
     with open(room / "said", "w+b") as said:
-        child = subprocess.Popen(["rt", "try"], start_new_session=True, stderr=said, **how)
+        try:
+            child = subprocess.Popen(["rt", "try"], start_new_session=True, stderr=said, **how)
+        except FileNotFoundError as error:
+            raise NoProgram("the command rt of the Rattle kit must be on the PATH") from error
         try:
             while not (found := handed_over(folder)):
                 if child.poll() is not None:
