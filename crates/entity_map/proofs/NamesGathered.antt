@@ -1,4 +1,4 @@
--- A hasher that takes bytes in parts.
+-- A hasher that is fed bytes in parts.
 use Rattle.std.proofs.Common.{◌≡◌, ℕ, List, [], ◌++◌, refl}
 use Rattle.std.specs.Hash.DefaultHasher.{write, write_byte}
 use Rattle.std.specs.declared.hash.DefaultHasher.{DefaultHasher}

@@ -27,7 +27,7 @@ module _ (buffer text : List ℕ) (is_buffer : IsUtf8 buffer) (is_text : IsUtf8 
   same_texts (p ∷ places) all =
       rw (same_text p (All-head (IsCut buffer) p places all), same_texts places (All-tail (IsCut buffer) p places all)) refl
 
-  -- the place of the text is cut, and the texts are those before and this
+  -- the range of the text is cut out, and the texts are those before it and this one
   pub pushed : (later : List ℕ) (places more : List Place) (p : Place) → later ≡ buffer ++ text → more ≡ places ++ p ∷ [] → p.start ≡ length buffer
       → p.end ≡ length buffer + length text → All (IsCut buffer) places
       → All (IsCut later) more × (map (text_in later) more ≡ map (text_in buffer) places ++ text ∷ [])

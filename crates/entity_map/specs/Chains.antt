@@ -1,4 +1,4 @@
--- The chains of numbers whose hashes have one slot.
+-- Hash chains: the numbers whose hashes have the same slot are linked.
 use Rattle.std.specs.Prelude.{◌≡◌, ◌≢◌, ℕ, ◌+◌, ◌*◌, ◌/◌, ◌^◌, ◌<◌, ◌≤◌, List, length, slice_index}
 use Rattle.entity_map.specs.declared.chains.Chains.{Chains}
 
@@ -11,13 +11,14 @@ room_of chains = length chains.before.items
 abbrev pub slots_of : Chains → ℕ
 slots_of chains = length chains.last.items
 
--- a link leads to the last number below another whose hash has a slot, or there is none
+-- a link leads to the greatest number below another whose hash has a slot, or there is none
 pub record IsLink (hashes : List ℕ) (slots s below link : ℕ) : Type 0 where
   pub within : link ≤ below
   pub skipped : (i : ℕ) → link ≤ i → i < below → slot slots (slice_index hashes i) ≢ s
   pub in_slot : (i : ℕ) → link ≡ i + 1 → slot slots (slice_index hashes i) ≡ s
 
--- the numbers of hashes are chained: from each slot to its last, and from each to the one before it
+-- the numbers of hashes are chained: each slot links to its last number, and each number to the one
+-- before it
 pub record IsTable (hashes : List ℕ) (chains : Chains) : Type 0 where
   pub room : length hashes ≤ room_of chains
   pub twice : slots_of chains ≡ 2 * room_of chains

@@ -4,11 +4,11 @@ use Rattle.std.specs.List.{slice_range}
 use Rattle.std.specs.Str.{IsCharBoundary}
 use Rattle.entity_map.specs.declared.texts.Place.{Place}
 
--- the text of a place in a buffer
+-- the text of a range in a buffer
 abbrev pub text_in : List ℕ → Place → List ℕ
 text_in buffer place = slice_range buffer place.start place.end
 
--- a place holds a text
+-- a range holds a text
 pub record IsCut (buffer : List ℕ) (place : Place) : Type 0 where
   pub ordered : place.start ≤ place.end
   pub from : IsCharBoundary buffer place.start

@@ -1,4 +1,4 @@
-//! Numbers that are found by hashes.
+//! A hash table with chains: it finds numbers by their hashes.
 
 ghost use Rattle.std.specs.Prelude.{◌≡◌, ◌≢◌, ℕ, List, ◌+◌, ◌*◌, ◌<◌, ◌≤◌, ◌++◌, ◌∷◌, [], length, slice_get, slice_index, Some, OnOk, IfSome, IfNone};
 ghost use Rattle.entity_map.specs.Chains.{room_of, slot, slots_of, IsTable};
@@ -8,8 +8,8 @@ use crate::texts::Texts;
 use std::alloc::Global;
 
 /// Numbers by the slots of their hashes: the last of each slot, and the one before each. A link is
-/// a number and one, or 0 where there is none.
-/// There are twice as many slots as there is room for numbers, so that most chains are short.
+/// a number plus one, or 0 where there is none.
+/// There are twice as many slots as the capacity for numbers, so that most chains are short.
 #[derive(Drop)]
 pub(crate) struct Chains {
     last: Vec<u32>,
@@ -27,7 +27,9 @@ impl Chains {
         }
     }
 
-    /// Makes room for so many hashes more, and for twice as many as there are.
+    /// Reserves capacity for this many more hashes. A new allocation holds at least twice as many
+    /// hashes
+    /// as there are.
     pub(crate) fn make_room(
         &mut self,
         alloc: Global,

@@ -6,11 +6,11 @@ ghost use Rattle.std.specs.Hash.DefaultHasher as sip;
 use std::hash::{DefaultHasher, Hasher};
 use std::marker::Model;
 
-// How many bytes of names are gathered before the hasher takes them: it takes eight at once, and
+// How many bytes of names are buffered before they are hashed: the hasher takes eight at once, and
 // fewer one by one.
 const MOST_GATHERED: usize = 256;
 
-/// SipHash of names, one behind another. A contract sees the state of the hasher that took them.
+/// SipHash of concatenated names. A contract views it as the state of the hasher that was fed them.
 #[derive(Drop)]
 pub struct NameDigest {
     hasher: DefaultHasher,
@@ -31,7 +31,7 @@ impl Model for NameDigest {
 }
 
 impl NameDigest {
-    /// Of no name.
+    /// The digest of no name.
     #[tactic(auto, using(crate::proofs::NamesGathered::written))]
     pub fn new() -> Self
         ensures { result ≡ sip.initial }
@@ -43,7 +43,7 @@ impl NameDigest {
         }
     }
 
-    /// Takes a name.
+    /// Adds a name.
     pub fn write(&mut self, name: &[u8])
         ensures { self.new ≡ sip.write self.old name.now }
     {
@@ -60,8 +60,8 @@ impl NameDigest {
     }
 }
 
-// Gathers a name behind those that are gathered, and returns how many bytes are then. Where there
-// is no room for it, the hasher takes them all.
+// Buffers a name after those in the buffer, and returns how many bytes are then buffered. Where the
+// name does not fit, the hasher takes them all.
 #[tactic(auto, using(crate::proofs::NamesGathered::written))]
 fn gather(
     hasher: &mut DefaultHasher,

@@ -6,14 +6,14 @@ use crate::memory::OutOfMemory;
 use std::alloc::Global;
 use std::marker::Model;
 
-/// Where a text stands in its buffer, which has fewer than 2^32 bytes: so a place takes eight.
+/// The range of a text in its buffer. The buffer has fewer than 2^32 bytes, so a range takes eight.
 #[derive(Clone, Copy)]
 pub(crate) struct Place {
     start: u32,
     end: u32,
 }
 
-/// The place of so many bytes behind a buffer of `start` bytes.
+/// The range of this many bytes after a buffer of `start` bytes.
 fn place_of(start: usize, length: usize) -> Option<Place>
     ensures { IfSome result (λ place. (place.start ≡ start) × (place.end ≡ start + length)) }
 {
@@ -22,7 +22,7 @@ fn place_of(start: usize, length: usize) -> Option<Place>
     Some(Place { start, end })
 }
 
-/// A list of texts, which takes two allocations in all.
+/// A list of texts, which needs two allocations in all.
 #[derive(Drop)]
 pub(crate) struct Texts {
     buffer: String,
@@ -42,7 +42,7 @@ impl Model for Texts {
 }
 
 impl Texts {
-    /// No text.
+    /// The empty list.
     pub(crate) fn new(alloc: Global) -> Self
         ensures { result ≡ [] }
     {
@@ -52,7 +52,7 @@ impl Texts {
         }
     }
 
-    /// Makes room for the places of `n` more texts.
+    /// Reserves capacity for the ranges of `n` more texts.
     pub(crate) fn reserve(&mut self, n: usize) -> Result<(), OutOfMemory>
         ensures { self.new ≡ self.old }
     {
@@ -74,7 +74,7 @@ impl Texts {
         Ok(())
     }
 
-    /// A text by its number.
+    /// The text at an index.
     pub(crate) fn get(&self, number: usize) -> &str
         requires { number < length self.now }
         ensures { slice_get self.now number ≡ Some result.now }
@@ -83,7 +83,7 @@ impl Texts {
         &self.buffer[place.start as usize..place.end as usize]
     }
 
-    /// How many there are.
+    /// The number of texts.
     pub(crate) fn len(&self) -> usize
         ensures { result ≡ length self.now }
     {

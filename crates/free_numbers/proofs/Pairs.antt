@@ -1,4 +1,4 @@
--- Sums of neighbours.
+-- Sums of adjacent counts.
 use Rattle.std.proofs.lemmas.Grind.{common_steps}
 use Rattle.std.proofs.Common.{◌≡◌, ◌∙◌, ◌≤◌, ◌<◌, ℕ, zero, suc, ◌+◌, ◌-◌, ◌*◌, ◌/◌, List, [], ◌∷◌, ◌++◌, length, get_or, set, take, drop, length-set, refl, sym, ap, subst, arith}
 use Rattle.std.specs.Global.{Vec}
@@ -58,7 +58,7 @@ before-more (x ∷ xs) (suc p) = omega (arith, before-more xs p)
 pub some-within : (xs : List ℕ) (p : ℕ) → 0 < get_or xs p 0 → p < length xs
 some-within xs p h = grind (arith, get_or_past xs p 0)
 
--- the place of a pair, and the two places of its members
+-- the position of a pair, and the two positions of its members
 pub first-before : (xs ys : List ℕ) (p : ℕ) → ys ≡ pair_sums xs → before p ys ≡ before (2 * p) xs
 first-before xs ys p e = ap (before p) e ∙ pairs-before xs p ∙ ap (λ n. before n xs) (twice-is p)
 
@@ -116,7 +116,8 @@ module _ (vs ws : List (Vec ℕ)) (v : Vec ℕ) (e : vs ≡ v ∷ ws) (some : 0 
     left-is left is =
         is ∙ get_or_default v.items (2 * place) left 0 low ∙ ap (λ (l : List ℕ). get_or l (2 * place) 0) (sym (counts-first vs ws v e))
 
-    -- what is known once the place above is found: of the first of its two places, and of the second
+    -- what is known once the position above is found: of the first of its two positions, and of the
+    -- second
     pub record IsFound : Type 0 where
       pub within : 2 * place < length v.items
       pub small : length counts < 4294967296 → 2 * place < 4294967296
@@ -135,7 +136,7 @@ module _ (vs ws : List (Vec ℕ)) (v : Vec ℕ) (e : vs ≡ v ∷ ws) (some : 0 
       second_free = λ left at more. omega (arith, left-is left at, more, free, both-at counts sums place are-sums);
     }
 
--- ---- a level more
+-- ---- one more level
 
 pub pairs-shorter : (xs : List ℕ) → 1 < length xs → length (pair_sums xs) < length xs
 pairs-shorter xs h = grind (arith, length-pairs)

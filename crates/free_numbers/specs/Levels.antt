@@ -1,4 +1,4 @@
--- Counts, the sums of their neighbours, the sums of those, and so on.
+-- Counts, the sums of adjacent counts, the sums of those, and so on.
 use Rattle.std.specs.Prelude.{◌≡◌, ◌≤◌, ◌<◌, ℕ, zero, suc, List, [], ◌∷◌, length, map, get_or, ◌+◌, ⊤}
 use Rattle.std.specs.Global.{Vec}
 use Rattle.free_numbers.specs.Counts.{total, pair_sums, change_at}
@@ -16,7 +16,7 @@ IsChain [] = ⊤
 IsChain (xs ∷ []) = ⊤
 IsChain (xs ∷ ys ∷ ls) = (ys ≡ pair_sums xs) × IsChain (ys ∷ ls)
 
--- the same, and the last has at most one
+-- the same, and the last level has at most one count
 abbrev pub IsTree : List (List ℕ) → Type 0
 IsTree [] = ⊤
 IsTree (xs ∷ []) = length xs ≤ 1
@@ -32,7 +32,7 @@ abbrev pub changed : ℕ → ℕ → ℕ → List (List ℕ) → List (List ℕ)
 changed less more n [] = []
 changed less more n (xs ∷ ls) = change_at less more n xs ∷ changed less more (half n) ls
 
--- a count can be so many less and so many more
+-- `less` can be subtracted from a count, and `more` added
 abbrev pub CanChange : ℕ → ℕ → ℕ → List ℕ → Type 0
 CanChange less more n xs = (n < length xs) × (less ≤ get_or xs n 0) × (total xs + more < 4294967296)
 

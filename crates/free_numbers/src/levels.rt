@@ -1,4 +1,4 @@
-//! How many numbers are free: one by one, by pairs, by fours, and so on up to all.
+//! How many numbers are free: individually, in pairs, in fours, and so on up to all.
 
 ghost use Rattle.std.specs.Prelude.{◌≡◌, ◌≤◌, ◌<◌, ◌+◌, ◌-◌, ◌∷◌, [], length, get_or, IfOk, MatchOption};
 ghost use Rattle.free_numbers.specs.Counts.{total, before, change_at, pair_sums};
@@ -19,7 +19,7 @@ pub(crate) fn next_sum(counts: &[u32]) -> Option<(u32, &[u32])>
     }
 }
 
-/// The sums of neighbours.
+/// The sums of adjacent counts.
 pub(crate) fn sums(alloc: Global, counts: &[u32]) -> Result<Vec<u32>, AllocError>
     requires { total counts.now < 4294967296 }
     ensures { IfOk result (λ v. v.items ≡ pair_sums counts.now) }
@@ -33,7 +33,7 @@ pub(crate) fn sums(alloc: Global, counts: &[u32]) -> Result<Vec<u32>, AllocError
     Ok(sums)
 }
 
-/// The number before which `rank` counts are, and what is left of the rank at its own place.
+/// The number with `rank` counts before it, and the rank that remains at its own position.
 pub(crate) fn find(levels: &[Vec<u32>], rank: u32) -> (usize, u32)
     requires tree { IsTree (lists_of levels.now) }
     requires within { rank < total (counts_of (lists_of levels.now)) }
@@ -77,7 +77,7 @@ pub(crate) fn change(levels: &mut Vec<Vec<u32>>, number: usize, less: u32, more:
     }
 }
 
-/// Counts, their sums, and the sums of those up to one.
+/// Counts, their sums, and the sums of those, up to one total.
 pub(crate) fn levels_of(alloc: Global, counts: Vec<u32>) -> Result<Vec<Vec<u32>>, AllocError>
     requires { total counts.items < 4294967296 }
     ensures counts { IfOk result (λ v. counts_of (lists_of v.items) ≡ counts.items) }

@@ -10,8 +10,8 @@
 //! numbers.give(2);
 //! ```
 //!
-//! `nth`, `take` and `give` take steps that grow with the logarithm of how many numbers there are.
-//! Only `of` needs memory.
+//! `nth`, `take` and `give` take time logarithmic in how many numbers there are. Only `of` needs
+//! memory.
 //!
 //! Read on: `numbers` has the calls, `levels` the tree of counts below them.
 #![tactic(auto)]

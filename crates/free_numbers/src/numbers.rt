@@ -14,7 +14,7 @@ pub struct FreeNumbers {
     free: u32,
 }
 
-/// A contract sees a 1 for each number that is free, and a 0 for each other.
+/// A contract views it as a 1 for each number that is free, and a 0 for each other.
 impl Model for FreeNumbers {
     ghost use Rattle.std.specs.Prelude.{ℕ, List, ◌≡◌, ◌<◌, length};
     ghost use Rattle.free_numbers.specs.Counts.{total, IsCounts};
@@ -51,10 +51,10 @@ impl FreeNumbers {
         }
     }
 
-    /// Numbers of which those are free that have a 1, and not those that have a 0.
+    /// The numbers, where those with a 1 are free, and those with a 0 are not.
     ///
     /// # Errors
-    /// There was no memory.
+    /// There was not enough memory.
     pub fn of(alloc: Global, counts: Vec<u32>) -> Result<FreeNumbers, AllocError>
         requires counts { IsCounts counts.items }
         requires few { length counts.items < 4294967296 }
@@ -72,7 +72,7 @@ impl FreeNumbers {
         self.free
     }
 
-    /// The free number before which so many are free.
+    /// The free number with this many free numbers before it.
     pub fn nth(&self, rank: u32) -> Option<u32>
         ensures some { IsSome result ↔ (rank < total self.now) }
         ensures free { IfSome result (λ n. get_or self.now n 0 ≡ 1) }
@@ -85,7 +85,7 @@ impl FreeNumbers {
         Some(number as u32)
     }
 
-    /// A number is not free any more.
+    /// Marks a number as in use.
     pub fn take(&mut self, number: usize)
         requires { number < length self.old }
         ensures { self.new ≡ set self.old number 0 }
@@ -96,7 +96,7 @@ impl FreeNumbers {
         }
     }
 
-    /// A number is free again.
+    /// Marks a number as free.
     pub fn give(&mut self, number: usize)
         requires { number < length self.old }
         ensures { self.new ≡ set self.old number 1 }

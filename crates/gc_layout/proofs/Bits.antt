@@ -7,14 +7,14 @@ use Rattle.std.proofs.lemmas.Nat.{pow_pos}
 use Rattle.std.proofs.lemmas.Nat.Bits.{bit_at_and, and_pow, bit_at-lt, same_from_bits}
 use Rattle.gc_layout.specs.Kinds.{HasBitsOf}
 
--- a bit is set where its place holds 1
+-- a bit is set where its position holds 1
 set-from_bit_at : (n k : ℕ) → 0 < bit_at n k → IsBitSet n k
 set-from_bit_at n k holds none = grind (arith, and_pow, pow_pos)
 
 bit_at-from_set : (n k : ℕ) → IsBitSet n k → 0 < bit_at n k
 bit_at-from_set n k set = grind (arith, and_pow, zero-mul, cases_lt)
 
--- what is left of both is the second number
+-- the bits that both have are the second number
 pub bits-from_and : (n m : ℕ) → bit_and n m ≡ m → HasBitsOf n m
 bits-from_and n m all k set =
     let of_both : bit_at m k ≡ min (bit_at n k) (bit_at m k) = ap (λ m. bit_at m k) (sym all) ∙ bit_at_and n m k in
@@ -29,6 +29,6 @@ and-from_bits n m all = same_from_bits (bit_and n m) m (λ k. at_place k)
         (λ holds. let other = bit_at-from_set n k (all k (set-from_bit_at m k holds)) in omega (arith, other, bit_at-lt n k, bit_at-lt m k))
         (λ none. omega (arith, none)) (cases_lt 0 (bit_at m k))
 
--- the test that finds it
+-- the test for this
 pub matches_by_and : (n m : ℕ) → IsTrue (eqb (bit_and n m) m) ↔ HasBitsOf n m
 matches_by_and n m = (λ same. bits-from_and n m (eqb-true _ _ same), λ all. eq-eqb _ _ (and-from_bits n m all))

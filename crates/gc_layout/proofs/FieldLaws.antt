@@ -15,14 +15,14 @@ use Rattle.gc_layout.proofs.Placing.{storage_size_positive, fields_align_positiv
 abbrev offset_of : GcStructLayoutField → ℕ
 offset_of field = field.offset
 
--- the offset at a place
+-- the offset at a position
 offset_at_is : (header : ℕ) (fields : List WasmFieldType) (is_exception : Bool) (i : ℕ) → i < length fields
     → offset_at (fields_layout header fields is_exception) i ≡ next_multiple_of (fields_end header (take i fields)) (size_at fields i)
 offset_at_is header [] is_exception i lt = absurd (omega arith)
 offset_at_is header (field ∷ fields) is_exception zero lt = refl
 offset_at_is header (field ∷ fields) is_exception (suc i) lt = offset_at_is (end_after header field) fields is_exception i (omega arith)
 
--- the end of the field there is that of all fields up to it
+-- the end of the field there is the end of all fields up to it
 end_at_is : (header : ℕ) (fields : List WasmFieldType) (is_exception : Bool) (i : ℕ) → i < length fields
     → offset_at (fields_layout header fields is_exception) i + size_at fields i ≡ fields_end header (take (suc i) fields)
 end_at_is header [] is_exception i lt = absurd (omega arith)

@@ -25,7 +25,7 @@ same_kind-true a b same = kind_number-injective a b (eqb-true _ _ same)
 same_kind-laws : IsEquivalence same_kind
 same_kind-laws = grind (arith, eq-eqb, nat_tests, eqb-true, eqb)
 
--- the test by bits looks the other kind up in the kinds above
+-- the test by bits searches for the other kind in the kinds above
 test-lists : (a b : VMGcKind) → eqb (bit_and (kind_number a) (kind_number b)) (kind_number b) ≡ list_any (same_kind b) (kinds_from a)
 test-lists a b = grind (arith, common_steps)
 

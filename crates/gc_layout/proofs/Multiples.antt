@@ -6,11 +6,11 @@ use Rattle.std.proofs.lemmas.Nat.{div-add-mod'}
 use Rattle.std.specs.Int.{next_multiple_of}
 use Rattle.gc_layout.specs.Fields.{IsLeastMultiple}
 
--- a multiple is its own next one
+-- a multiple is its own next multiple
 next-at_multiple : (n size : ℕ) → 0 < size → n % size ≡ 0 → next_multiple_of n size ≡ n
 next-at_multiple n size positive whole = grind (arith, mul-mod_left)
 
--- between two multiples it is the upper one
+-- between two multiples, the next multiple is the upper one
 next-between : (n size : ℕ) → 0 < size → 0 < n % size → next_multiple_of n size ≡ (n / size + 1) * size
 next-between n size positive rest = grind (arith, mod-lt, mod-eq_of_lt, div-add-mod')
 

@@ -15,7 +15,7 @@ use Rattle.gc_layout.specs.declared.fields.GcStructLayoutField.{GcStructLayoutFi
 use Rattle.gc_layout.specs.Sizes.{val_size, storage_size, field_size}
 use Rattle.gc_layout.specs.Fields.{end_after, placed_after, placed_fields, fields_end, fields_align, fields_layout}
 
--- what a walk knows of the fields that it has placed
+-- what the loop knows of the fields that it has placed
 pub record ArePlaced (header : ℕ) (fields : List WasmFieldType) (end align : ℕ) (placed : List GcStructLayoutField) : Type 0 where
   pub ends : end ≡ fields_end header fields
   pub aligned : align ≡ fields_align fields
@@ -88,7 +88,7 @@ le-next_multiple_of n size = omega arith
 pub le-end_after : (end : ℕ) (field : WasmFieldType) → end ≤ end_after end field
 le-end_after end field = omega arith
 
--- the fields before a place end before all of them do
+-- the fields before a position end before all of them do
 pub le-fields_end : (header : ℕ) (fields : List WasmFieldType) → header ≤ fields_end header fields
 le-fields_end header [] = omega arith
 le-fields_end header (field ∷ fields) =
@@ -117,7 +117,7 @@ le-fold_max a (x ∷ xs) = omega (arith, le-fold_max (max a x) xs)
 pub fields_align_positive : (fields : List WasmFieldType) → 0 < fields_align fields
 fields_align_positive fields = omega (arith, le-fold_max 8 (map field_size fields))
 
--- what is not below a limit is at least the limit
+-- a number that is not below a limit is at least the limit
 not_below : (n limit : ℕ) → (n < limit → ⊥) → limit ≤ n
 not_below n limit wide = ⊎_elim (λ fits. absurd (wide fits)) (λ past. past) (cases_lt n limit)
 

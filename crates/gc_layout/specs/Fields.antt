@@ -1,4 +1,4 @@
--- Where the fields of structs and exceptions stand. Numbers are exact: no offset and no size wraps.
+-- The offsets of the fields of structs and exceptions. Numbers are exact: none wraps.
 use Rattle.std.specs.Prelude.{◌≡◌, ◌≤◌, ℕ, ◌+◌, ◌%◌, max, Bool, true, false, List, fold, map, slice_index}
 use Rattle.std.specs.Int.{next_multiple_of}
 use Rattle.std.specs.List.{scan}
@@ -9,14 +9,15 @@ use Rattle.wasm_types.specs.declared.aggregate.WasmExnType.{WasmExnType}
 use Rattle.gc_layout.specs.declared.fields.GcStructLayoutField.{GcStructLayoutField}
 use Rattle.gc_layout.specs.Sizes.{field_size}
 
--- what contracts see of the layout of a struct or an exception
+-- how contracts view the layout of a struct or an exception
 pub record FieldsLayout : Type 0 where
   pub size : ℕ
   pub align : ℕ
   pub fields : List GcStructLayoutField
   pub is_exception : Bool
 
--- where a field begins: the least multiple of its size that is not below the end of what stands before it
+-- where a field begins: the least multiple of its size that is not below the end of what is before
+-- it
 abbrev pub offset_after : ℕ → WasmFieldType → ℕ
 offset_after end field = next_multiple_of end (field_size field)
 
@@ -31,7 +32,7 @@ placed_after end field = record {
   is_gc_ref = storage_is_object field.element_type;
 }
 
--- fields one after another, after a header that ends at `header`
+-- consecutive fields, after a header that ends at `header`
 abbrev pub placed_fields : ℕ → List WasmFieldType → List GcStructLayoutField
 placed_fields header fields = scan end_after placed_after header fields
 
@@ -52,19 +53,19 @@ fields_layout header fields is_exception = record {
   is_exception = is_exception;
 }
 
--- the fields of a struct stand after the header
+-- the fields of a struct are after the header
 abbrev pub struct_layout_of : ℕ → WasmStructType → FieldsLayout
 struct_layout_of header fields = fields_layout header fields false
 
--- those of an exception stand after the header and two indices of 4 bytes, which name its tag
+-- those of an exception are after the header and two indices of 4 bytes, which name its tag
 abbrev pub exn_layout_of : ℕ → WasmExnType → FieldsLayout
 exn_layout_of header exn = fields_layout (header + 8) exn.fields true
 
--- the offset of the field at a place of a layout
+-- the offset of the field at a position of a layout
 abbrev pub offset_at : FieldsLayout → ℕ → ℕ
 offset_at layout i = slice_index (map (λ field. field.offset) layout.fields) i
 
--- the size of the field at a place
+-- the size of the field at a position
 abbrev pub size_at : List WasmFieldType → ℕ → ℕ
 size_at fields i = slice_index (map field_size fields) i
 

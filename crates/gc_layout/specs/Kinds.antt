@@ -1,10 +1,10 @@
--- The kinds of collected objects, as bits of a number.
+-- The kinds of collected objects, as bit masks.
 use Rattle.std.specs.Prelude.{ℕ, List, [], ◌∷◌}
 use Rattle.std.specs.Int.{IsBitSet}
 use Rattle.gc_layout.specs.declared.kind.VMGcKind.{VMGcKind}
 use Rattle.gc_layout.specs.declared.kind.VMGcKind.TheVariants.{ExternRef, AnyRef, EqRef, ArrayRef, StructRef, ExnRef}
 
--- the number of a kind: it has bits of its own, and those of the kinds above it
+-- the number of a kind: it has its own bits, and those of the kinds above it
 abbrev pub kind_number : VMGcKind → ℕ
 kind_number ExternRef = 0x40000000
 kind_number AnyRef = 0x80000000

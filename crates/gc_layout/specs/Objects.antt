@@ -8,22 +8,22 @@ use Rattle.gc_layout.specs.declared.object.GcLayout.TheVariants as layout
 use Rattle.gc_layout.specs.Fields.{FieldsLayout, struct_layout_of, exn_layout_of}
 use Rattle.gc_layout.specs.Arrays.{array_layout_of}
 
--- what contracts see of a layout, whoever shares it
+-- how contracts view a layout, whoever shares it
 pub data ObjectLayout : Type 0 where
   OfArray : GcArrayLayout → ObjectLayout
   OfFields : FieldsLayout → ObjectLayout
 
--- a layout as contracts see it
+-- a layout as contracts view it
 abbrev pub object_layout : GcLayout → ObjectLayout
 object_layout (layout.Array a) = OfArray a
 object_layout (layout.Struct s) = OfFields s.value
 
--- the layout of an array that it is
+-- the array layout, where the layout is one
 abbrev pub array_in : GcLayout → Option GcArrayLayout
 array_in (layout.Array a) = Some a
 array_in (layout.Struct _) = None
 
--- the layout of a struct or an exception that it is
+-- the struct or exception layout, where the layout is one
 abbrev pub struct_in : GcLayout → Option FieldsLayout
 struct_in (layout.Array _) = None
 struct_in (layout.Struct s) = Some s.value

@@ -1,4 +1,4 @@
--- How many bytes a value takes inside a collected object.
+-- The number of bytes of a value inside a collected object.
 use Rattle.std.specs.Prelude.{ℕ}
 use Rattle.wasm_types.specs.declared.value.WasmValType.{WasmValType}
 use Rattle.wasm_types.specs.declared.value.WasmValType.TheVariants.{I32, I64, F32, F64, V128, Ref}
@@ -6,7 +6,7 @@ use Rattle.wasm_types.specs.declared.field.WasmStorageType.{WasmStorageType}
 use Rattle.wasm_types.specs.declared.field.WasmStorageType.TheVariants.{I8, I16, Val}
 use Rattle.wasm_types.specs.declared.field.WasmFieldType.{WasmFieldType}
 
--- a value: a reference is a number of 32 bits
+-- a value: a reference is a 32-bit number
 abbrev pub val_size : WasmValType → ℕ
 val_size I32 = 4
 val_size I64 = 8

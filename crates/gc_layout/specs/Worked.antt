@@ -11,7 +11,7 @@ field_of t = record { element_type = t; mutable = false }
 abbrev pub fields_of : List WasmStorageType → List WasmFieldType
 fields_of types = map field_of types
 
--- a field that the collector does not see
+-- a field that the collector does not trace
 abbrev pub data_at : ℕ → GcStructLayoutField
 data_at offset = record { offset = offset; is_gc_ref = false }
 

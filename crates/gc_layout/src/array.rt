@@ -10,8 +10,8 @@ use crate::layout::Layout;
 use crate::sizes::byte_size_of_wasm_ty_in_gc_heap;
 use wasm_types::WasmArrayType;
 
-/// Where the elements of an array stand: after the header and the length, one after another.
-/// Offsets count from the start of the object.
+/// The offsets of the elements of an array: after the header and the length, without gaps between
+/// them. Offsets count from the start of the object.
 #[derive(Clone, Copy, Debug)]
 pub struct GcArrayLayout {
     /// The bytes before the elements.
@@ -46,7 +46,8 @@ impl GcArrayLayout {
         self.elem_offset(len)
     }
 
-    /// The offset of the element at a place, in bytes; `None` exactly where it passes `u32::MAX`.
+    /// The offset of the element at a position, in bytes; `None` exactly where it passes
+    /// `u32::MAX`.
     pub fn elem_offset(&self, i: u32) -> Option<u32>
         ensures { let offset = self.now.base_size + i * self.now.elem_size in SomeIff result (offset < 2 ^ 32) offset }
     {

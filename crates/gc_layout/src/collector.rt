@@ -95,6 +95,6 @@ pub trait GcTypeLayouts {
         GcStructLayout::new(alloc, tag_end, ty.fields.as_slice(), true)
     }
 
-    /// No header takes half of the heap.
+    /// No header is as large as half of the heap.
     ghost small: { header_size < 2 ^ 31 };
 }

@@ -13,7 +13,7 @@ use std::alloc::Global;
 use std::marker::Model;
 use wasm_types::WasmFieldType;
 
-/// Where a field of a struct or an exception stands.
+/// The position of a field of a struct or an exception.
 #[derive(Clone, Copy, Debug)]
 pub struct GcStructLayoutField {
     /// The offset from the start of the object, in bytes.
@@ -22,8 +22,8 @@ pub struct GcStructLayoutField {
     pub is_gc_ref: bool,
 }
 
-/// Where the fields of a struct or an exception stand: in their order, each at the next multiple of
-/// its size, so that a subtype has the fields of its supertype at the same offsets.
+/// The offsets of the fields of a struct or an exception: in their order, each at the next multiple
+/// of its size. So a subtype has the fields of its supertype at the same offsets.
 #[derive(Drop)]
 pub struct GcStructLayout {
     /// The size of the object, in bytes, with its header: a multiple of its alignment.
@@ -32,11 +32,11 @@ pub struct GcStructLayout {
     pub align: u32,
     /// Each field, in order.
     pub fields: Vec<GcStructLayoutField>,
-    /// Whether the object is an exception, whose tag stands after the header.
+    /// Whether the object is an exception, whose tag is after the header.
     pub is_exception: bool,
 }
 
-/// A contract sees the fields as a list.
+/// A contract views the fields as a list.
 impl Model for GcStructLayout {
     ghost use Rattle.gc_layout.specs.Fields.{FieldsLayout};
 

@@ -7,7 +7,7 @@ pub const POISON: u8 = 0x0F;
 /// The bit of an object's header that marks it as on the precise list of stack roots.
 pub const DRC_HEADER_MARK_BIT: u32 = 1;
 
-/// The bit of an object's header that says that it is on the approximate list of stack roots.
+/// The bit of an object's header that marks it as on the approximate list of stack roots.
 pub const DRC_HEADER_IN_OVER_APPROX_LIST_BIT: u32 = 2;
 
 /// How long the approximate list of stack roots is before reading it may force a collection.
@@ -22,10 +22,10 @@ pub const VM_GC_HEADER_SIZE: u32 = 8;
 /// The least alignment of that header.
 pub const VM_GC_HEADER_ALIGN: u32 = 8;
 
-/// The offset in it of the object's kind.
+/// The offset in the header of the object's kind.
 pub const VM_GC_HEADER_KIND_OFFSET: u32 = 0;
 
-/// The offset in it of the index of the object's type.
+/// The offset in the header of the index of the object's type.
 pub const VM_GC_HEADER_TYPE_INDEX_OFFSET: u32 = 4;
 
 /// The size of an array's length, and of each of the two indices that name an exception's tag.

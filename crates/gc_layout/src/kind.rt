@@ -1,11 +1,11 @@
-//! The kinds of objects, as bits of a number.
+//! The kinds of objects, as bit masks.
 
 ghost use Rattle.std.specs.Prelude.{◌≡◌, ◌≤◌, ◌↔◌, IsTrue, bit_and};
 ghost use Rattle.gc_layout.specs.Kinds.{kind_number, MatchesKind};
 
-/// The kind of an object, in the highest six bits of a number of 32 bits. A kind has the bits of
-/// each kind above it in the tree of subtypes (core specification, 3.3, heap types), so that one
-/// `and` finds whether an object is of a type.
+/// The kind of an object, in the highest six bits of a 32-bit number. A kind has the bits of each
+/// kind above it in the tree of subtypes (core specification, 3.3, heap types), so that one `and`
+/// tests whether an object is of a type.
 #[derive(Clone, Copy, Debug, PartialEq, Eq)]
 pub enum VMGcKind {
     /// A value of the host.

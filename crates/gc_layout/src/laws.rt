@@ -22,7 +22,7 @@ pub fn offsets_are_least_multiples()
         → IsLeastMultiple (field_size array.0) (header + 4) (array_layout_of header array).base_size }
 {}
 
-/// Fields stand after the header, end before a later field begins, and end within the object.
+/// Fields are after the header, end before a later field begins, and end within the object.
 pub fn fields_never_overlap()
     ensures behind { (header : ℕ) (fields : List WasmFieldType) (is_exception : Bool) (i : ℕ) → i < length fields
         → header ≤ offset_at (fields_layout header fields is_exception) i }
@@ -52,8 +52,8 @@ pub fn alignments_are_greatest()
     ensures power_of_two { (fields : List WasmFieldType) → IsPowerOfTwo (fields_align fields) }
 {}
 
-/// By the bits of their numbers the kinds are ordered, and as the tree of subtypes orders them:
-/// arrays and structs are below eq, and eq below any; host values and exceptions stand apart.
+/// By the bits of their numbers the kinds are ordered as in the tree of subtypes: arrays and
+/// structs are below eq, and eq below any; host values and exceptions are related to no other kind.
 pub fn kinds_are_a_tree()
     ensures reflexive { (a : VMGcKind) → MatchesKind a a }
     ensures transitive { (a b c : VMGcKind) → MatchesKind a b → MatchesKind b c → MatchesKind a c }

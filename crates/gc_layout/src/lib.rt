@@ -15,7 +15,7 @@
 //! The collectors differ in their headers: 24 bytes for `drc`, 8 for `null`. A layout takes one
 //! pass over the fields, and memory for their list.
 //!
-//! Read on: `collector`, `fields`, `array`, `kind`; `plan` makes the layouts of a whole module.
+//! Read on: `collector`, `fields`, `array`, `kind`; `plan` makes the layouts of a complete module.
 #![tactic(auto)]
 
 mod array;

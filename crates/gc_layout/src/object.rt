@@ -12,9 +12,9 @@ use std::rc::Rc;
 /// The layout of an object of the collector.
 #[derive(Drop)]
 pub enum GcLayout {
-    /// That of an array.
+    /// The layout of an array.
     Array(GcArrayLayout),
-    /// That of a struct or an exception.
+    /// The layout of a struct or an exception.
     Struct(Rc<GcStructLayout>),
 }
 
@@ -35,7 +35,7 @@ impl From<Rc<GcStructLayout>> for GcLayout {
 }
 
 impl GcLayout {
-    /// The layout of a struct or an exception that it is.
+    /// The struct or exception layout, where the layout is one.
     pub fn unwrap_struct(&self) -> &Rc<GcStructLayout>
         requires { IsSome (struct_in self.now) }
         ensures { struct_in self.now ≡ Some result.now.value }
@@ -46,7 +46,7 @@ impl GcLayout {
         }
     }
 
-    /// The layout of an array that it is.
+    /// The array layout, where the layout is one.
     pub fn unwrap_array(&self) -> &GcArrayLayout
         requires { IsSome (array_in self.now) }
         ensures { array_in self.now ≡ Some result.now }

@@ -5,7 +5,8 @@ ghost use Rattle.gc_layout.specs.Sizes.{storage_size};
 
 use wasm_types::{WasmStorageType, WasmValType};
 
-/// The bytes of a value inside a collected object: 1, 2, 4, 8 or 16. It is its alignment too.
+/// The size of a value inside a collected object, in bytes: 1, 2, 4, 8 or 16. It is also its
+/// alignment.
 pub fn byte_size_of_wasm_ty_in_gc_heap(ty: &WasmStorageType) -> u32
     ensures { result ≡ storage_size ty.now }
 {

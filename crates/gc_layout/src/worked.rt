@@ -10,8 +10,8 @@ ghost use Rattle.wasm_types.specs.declared.heap.WasmHeapType.TheVariants.{Any, I
 
 use wasm_types::EngineOrModuleTypeIndex;
 
-/// Fields after headers of 8 and of 24 bytes. Each stands at the least multiple of its size;
-/// nothing wraps at 2^32.
+/// Fields after headers of 8 and of 24 bytes. Each is at the least multiple of its size; nothing
+/// wraps at 2^32.
 pub fn worked_fields()
     ensures none { struct_layout_of 8 [] ≡ record { size = 8; align = 8; fields = []; is_exception = false } }
     ensures small_after_large { struct_layout_of 8 (fields_of (I8 ∷ Val I32 ∷ I16 ∷ Val I64 ∷ [])) ≡ record {
@@ -43,7 +43,7 @@ pub fn worked_fields()
     } }
 {}
 
-/// After the header of an exception stand two indices of 4 bytes, and then the fields.
+/// After the header of an exception are two indices of 4 bytes, and then the fields.
 pub fn worked_exceptions(tag: EngineOrModuleTypeIndex)
     ensures counting { exn_layout_of 24 (record { func_ty = tag; fields = fields_of (Val I32 ∷ Val V128 ∷ []) }) ≡ record {
       size = 64;
@@ -59,7 +59,7 @@ pub fn worked_exceptions(tag: EngineOrModuleTypeIndex)
     } }
 {}
 
-/// Elements stand after the header and a length of 4 bytes.
+/// Elements are after the header and a length of 4 bytes.
 pub fn worked_arrays()
     ensures bytes { array_layout_of 24 (record { 0 = field_of I8 })
         ≡ record { base_size = 28; align = 8; elem_size = 1; elems_are_gc_refs = false } }

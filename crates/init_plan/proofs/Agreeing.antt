@@ -1,4 +1,4 @@
--- Globals, memories and tables agree together.
+-- A plan agrees on globals, memories and tables together.
 use Rattle.std.proofs.Common.{subst, sym}
 use Rattle.wasm_spec.specs.Module.{Module}
 use Rattle.rule_spec.specs.Lists.{lists_of_module}

@@ -1,4 +1,4 @@
--- Runtime data of passive segments, entered by the segments' numbers.
+-- Runtime data of passive segments, recorded by the segments' numbers.
 use Rattle.std.proofs.Common.{◌≡◌, ℕ, suc, ◌+◌, ◌<◌, false, List, [], ◌∷◌, ◌++◌, length, map, get_or, refl, sym, ap, ◌∙◌, subst, arith, append_assoc, Option, Some}
 use Rattle.std.proofs.lemmas.Bool.{eqb-false, ne_eqb}
 use Rattle.std.proofs.lemmas.Map.Keys.{IsDistinct-head, IsDistinct-tail}
@@ -13,7 +13,7 @@ use Rattle.wasm_index.specs.declared.spaces.RuntimeDataSpace.{RuntimeDataSpace}
 use Rattle.wasm_index.specs.Index.{number_of, index_of}
 use Rattle.init_plan.specs.Views.{FindsInOrder}
 
--- what holds of a list's values holds of the value of each element
+-- a fact of a list's values holds of the value of each element
 pub All-read_map : {X Y : Type 0} (f : X → Y) (P : Y → Type 0) (xs : List X) (i : ℕ) (d : X) → i < length xs → All P (map f xs)
     → P (f (get_or xs i d))
 All-read_map f P xs i d within h = subst P (get_or-map f xs i d (f d) within) (h i (f d) (omega (arith, length-map xs f)))

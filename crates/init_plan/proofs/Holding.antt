@@ -1,4 +1,4 @@
--- A plan that agrees with a translation agrees with the module whose lists it holds.
+-- A plan that agrees with a translation agrees with the module whose lists the translation holds.
 use Rattle.std.proofs.Common.{◌≡◌, ℕ, Bool, true, false, List, [], ◌∷◌, ◌++◌, length, map, drop, refl, ◌∙◌, ap, subst}
 use Rattle.std.specs.Prelude.{unwrap_or, if◌then◌else◌}
 use Rattle.std.proofs.lemmas.Simd.{map-map}

@@ -9,7 +9,7 @@ module _ (options : ImageOptions) (imports : ℕ) (memories : List ImageMemory) 
   pub not_static : IsStatic options imports memories active → ⊥
   not_static h = false≢true (sym off ∙ h.enabled)
 
-  -- what every plan's runtime data pass, those of the segments pass
+  -- a size that the runtime data of every plan reach is reached by the data of the segments
   pub too_many : (n : ℕ) → ((plan : MemoryPlan) → IsMemoryPlan options imports memories active passive plan → n ≤ sum_by length plan.runtime)
       → n ≤ sum_by length (map (λ s. s.bytes) active ++ passive)
   too_many n each =

@@ -1,4 +1,4 @@
--- What is kept of memories, and startup that it raises.
+-- The segments of memories that are kept, and the startup that they require.
 use Rattle.std.proofs.Common.{◌≡◌, ℕ, Bool, true, false, List, [], ◌∷◌, map, All, Option, None, Some, refl, sym, ◌∙◌, ap, subst, arith, ◌+◌, ◌-◌}
 use Rattle.std.specs.Prelude.{IsTrue, is_none, slice_get}
 use Rattle.std.specs.Option.{option_map}
@@ -32,7 +32,7 @@ written plan ss = filter_map (λ (s : PlannedSegment). left_to_write plan s.offs
 abbrev Placed : Segment → Type 0
 Placed s = IsPlace s.1
 
--- ---- what is kept
+-- ---- the segments that are kept
 
 places-none : (plan : MemoryPlan) (ss : List Segment) → All Placed ss → is_empty (written plan ss) ≡ true
 places-none plan [] h = refl

@@ -1,4 +1,4 @@
--- The plan of memories leaves the tables ready.
+-- After the plan of memories the tables are still ready to be planned.
 use Rattle.std.proofs.Common.{sym, subst}
 use Rattle.init_plan.specs.declared.translation.ModuleTranslation.{ModuleTranslation}
 use Rattle.init_plan.specs.Views.{OnlyMemoryInitChanges}

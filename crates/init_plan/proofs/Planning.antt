@@ -1,4 +1,4 @@
--- The plan of a translation is that of the definitions.
+-- The plan of a translation is the plan of the definitions.
 use Rattle.std.proofs.Common.{◌≡◌, ℕ, ◌+◌, ◌^◌, ◌<◌, ◌≤◌, List, [], ◌∷◌, ◌++◌, length, map, drop, Option, None, Some, inl, inr, refl, sym, ◌∙◌, ap, subst, arith, length-drop}
 use Rattle.std.specs.Prelude.{IfSome}
 use Rattle.std.specs.Global.{Vec}
@@ -88,7 +88,7 @@ module _ (options : ImageOptions) (old taken mid : ModuleTranslation) (ready : M
   planned None sized h = as_segments sized.0 h
   planned (Some v) sized h = as_images (view_images v.items) sized.0 sized.1 h
 
--- the passive segments stand
+-- the passive segments remain
 same_passive : (page_size : ℕ) (images : Option (Vec (Option Image))) (active : List ActiveSegment) (taken mid : ModuleTranslation)
     → Begins page_size images active taken mid → mid.private_parts.passive_data ≡ taken.private_parts.passive_data
 same_passive page_size None active taken mid h = ap (λ (t : ModuleTranslation). t.private_parts.passive_data) h.same

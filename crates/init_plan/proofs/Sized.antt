@@ -37,7 +37,8 @@ module _ (options : ImageOptions) (t : ModuleTranslation) (ready : MemoryHalfIsR
     | inr b ↦ absurd (b.not_static sized.0)
   ]
 
-  -- what passes the runtime data of no plan passes the data of the segments
+  -- where images are off and the runtime data of every plan are too large, so are the data of the
+  -- segments
   pub data_large : options.enabled ≡ false → ((plan : MemoryPlan) → IsPlanFor options t plan → 2 ^ 32 ≤ sum_by length plan.runtime) → 2 ^ 32 ≤ data_total t
   data_large off each =
       let much = too_many options t.module.num_imported_memories (image_memories t.module) (initializers_of t) (passive_bytes t) off (2 ^ 32) each in

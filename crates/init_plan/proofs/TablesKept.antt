@@ -1,4 +1,4 @@
--- What is kept of tables, and startup that it raises.
+-- The segments and initialisers of tables that are kept, and the startup that they require.
 use Rattle.std.proofs.Common.{◌≡◌, ℕ, Bool, true, false, List, [], ◌∷◌, length, map, All, Option, None, refl, sym, ◌∙◌, ap, arith}
 use Rattle.std.specs.Prelude.{◌&&◌, ◌==◌, IsTrue, if◌then◌else◌}
 use Rattle.std.specs.List.{filter_map}
@@ -18,7 +18,7 @@ use Rattle.table_images.specs.Views.{active_elements_of, initial_of, planned_tab
 use Rattle.init_plan.specs.declared.translation.ModuleTranslation.{ModuleTranslation}
 use Rattle.init_plan.specs.Startup.{startup_kind, raised, types_after, with_startup}
 
--- ---- what is kept
+-- ---- the segments and initialisers that are kept
 
 kept-values : (ts : List Table) (vs : List TableInitialValue) (images : List (List (Option ℕ))) → length ts ≡ length vs → length images ≡ length vs
     → filter_map (λ (t : PlannedTable). t.initial) (planned_tables_of ts vs images) ≡ filter_map initial_of vs

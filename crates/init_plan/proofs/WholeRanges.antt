@@ -1,4 +1,4 @@
--- The runtime data of images stand at whole pages.
+-- The runtime data of images begin and end at multiples of the page size.
 use Rattle.std.proofs.Common.{◌≡◌, ℕ, zero, suc, ◌+◌, ◌*◌, ◌/◌, ◌%◌, ◌⊎◌, inl, inr, List, [], ◌∷◌, ◌++◌, length, map, Option, None, Some, refl, sym, ◌∙◌, ap, arith}
 use Rattle.std.specs.Prelude.{slice_get, IsSomeAnd}
 use Rattle.std.proofs.Math.Nat.{mod-add-div', add-mul-mod_self_right, mul-mod_left, zero-mod, zero-add}
@@ -8,7 +8,7 @@ use Rattle.replay_spec.specs.Plan.{MemoryPlan, ranges_from}
 use Rattle.replay_spec.specs.Images.{ImageOptions, ImageMemory, MemoryImage, IsImage, written_on, image_map, image_bytes, PlansImages, PlansSegments, IsMemoryPlan}
 use Rattle.init_plan.specs.Images.{IsWholeRange, HasWholeRanges}
 
--- ---- whole pages
+-- ---- complete pages
 
 sum_whole : (a b p : ℕ) → a % p ≡ 0 → b % p ≡ 0 → (a + b) % p ≡ 0
 sum_whole a b p x y = ap (λ n. n % p) (over (a % p) (a / p * p) (mod-add-div' a p) x) ∙ add-mul-mod_self_right b (a / p) p ∙ y where
@@ -25,7 +25,7 @@ image_whole page contents image i =
 abbrev AreWhole : ℕ → List (Option MemoryImage) → Type 0
 AreWhole page images = (k : ℕ) (image : MemoryImage) → slice_get images k ≡ Some (Some image) → length image.bytes % page ≡ 0
 
--- the range of an image that is numbered from base on, where ranges go on from a place
+-- the range of an image whose index counts from base, where the ranges continue from an offset
 abbrev RangeOf : ℕ → List (List ℕ) → ℕ → ℕ → ℕ → Type 0
 RangeOf page runtime base from index = (i : ℕ) × (index ≡ base + i) × IsSomeAnd (slice_get (ranges_from from (map length runtime)) i) (IsWholeRange page)
 

@@ -30,9 +30,9 @@ abbrev pub module_elements_phase : List Value → List (List Value) → Module �
 module_elements_phase globals imported m = let l = lists_of_module m in
     elements_phase globals (fields_of m) imported (defined_tables l) (active_elements l.elements)
 
--- Over any values of the imported globals the plan gives the module's globals; over these, and any
--- contents of the imported memories and tables, it leaves in both readings the module's bytes, and
--- the module's cells, and traps where the module's segments trap.
+-- Over any values of the imported globals the plan gives the module's globals. Over these, and any
+-- contents of the imported memories and tables, it leaves the module's bytes, by the map and by the
+-- list of the plan, and the module's cells. It traps where the module's segments trap.
 pub record AgreesInAll (m : Module) (globals : GlobalPlan) (memories : MemoryPlan) (tables : TablePlan) : Type 0 where
   pub on_globals : (imported : List Value) → length imported ≡ (lists_of_module m).imported_globals
       → planned_globals (fields_of m) imported globals ≡ globals_of m imported

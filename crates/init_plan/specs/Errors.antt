@@ -1,4 +1,4 @@
--- What the errors of the layers below are to a plan.
+-- The errors of the crates below, as errors of a plan.
 use Rattle.memory_images.specs.declared.error.ImageError.{ImageError}
 use Rattle.memory_images.specs.declared.error.ImageError.TheVariants as image
 use Rattle.module_types.specs.declared.error.BuildError.{BuildError}
@@ -10,7 +10,7 @@ abbrev pub error_of_build : BuildError → PlanError
 error_of_build build.OutOfMemory = plan.OutOfMemory
 error_of_build build.Poisoned = plan.Poisoned
 
--- where there are no images
+-- the error of a plan where there are no images
 abbrev pub plan_error_of : ImageError → PlanError
 plan_error_of image.TooLarge = plan.TooLarge
 plan_error_of image.OutOfMemory = plan.OutOfMemory

@@ -34,7 +34,7 @@ simple_global_of g = (number_of g.0, plain_value_of g.1)
 abbrev pub kept_global_of : Index DefinedGlobalSpace × List ConstOp → ℕ × Expression
 kept_global_of g = (number_of g.0, expression_of g.1)
 
--- what a translation says of the defined globals
+-- the defined globals of a translation, as a plan
 abbrev pub plan_of_globals : ModuleTranslation → GlobalPlan
 plan_of_globals t = record {
   count = length t.module.globals - t.module.num_imported_globals;
@@ -42,6 +42,6 @@ plan_of_globals t = record {
   kept = map kept_global_of t.global_initializers.items;
 }
 
--- constant first values stand in the record, and the other initialisers are kept
+-- constant first values are in the record, and the other initialisers are kept
 abbrev pub HoldsGlobals : Module → ModuleTranslation → Type 0
 HoldsGlobals m t = IsGlobalPlan (held_initialisers (lists_of_module m)) (plan_of_globals t)

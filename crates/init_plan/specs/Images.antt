@@ -1,4 +1,4 @@
--- The memories of a translated module, as the image rule asks of them.
+-- The memories of a translated module, as the image rule requires them.
 use Rattle.std.specs.Prelude.{◌≡◌, ◌++◌, ◌+◌, ◌%◌, ◌^◌, ◌<◌, IsSomeAnd, ℕ, List, length, map, drop, sum_by, slice_get, Option, None, Some}
 use Rattle.std.specs.Global.{Vec}
 use Rattle.memory_images.specs.declared.image.Image.{Image}
@@ -25,14 +25,14 @@ pub record BeginsByRule (options : ImageOptions) (old new : ModuleTranslation) :
   pub segmented : IsSegmented new.module.memory_initialization → (IsStatic options old.module.num_imported_memories (image_memories old.module) (initializers_of old) → ⊥) × (new.data_align ≡ None)
   pub images : (IsSegmented new.module.memory_initialization → ⊥) → IsStatic options old.module.num_imported_memories (image_memories old.module) (initializers_of old) × (new.data_align ≡ Some options.page)
 
--- each image of a plan is whole pages within its memory, has the contents, and is tight
+-- each image of a plan consists of complete pages within its memory, has the contents, and is tight
 abbrev pub HasTightImages : ImageOptions → ℕ → List ImageMemory → List ActiveSegment → List (List ℕ) → MemoryPlan → Type 0
 HasTightImages options imports memories active passive plan = (planned : PlansImages options imports memories active passive plan)
     → (m : ℕ) (memory : ImageMemory) (image : MemoryImage) → slice_get memories m ≡ Some memory
     → slice_get planned.images (imports + m) ≡ Some (Some image)
     → IsTight options memory (written_on active (imports + m)) (bytes_on (imports + m) active) image
 
--- a range from a page to a page
+-- a range that begins and ends at multiples of the page size
 abbrev pub IsWholeRange : ℕ → ℕ × ℕ → Type 0
 IsWholeRange page range = (range.0 % page ≡ 0) × (range.1 % page ≡ 0)
 
@@ -43,15 +43,15 @@ HasWholeRanges page images ranges = (m start index : ℕ) → slice_get images m
 
 -- ---- how many bytes the runtime data have
 
--- a plan of memories has runtime data of so many bytes as a fact says; there is such a plan, and
--- all have the same runtime data
+-- the size of the runtime data of a plan of memories, in bytes, satisfies a predicate; there is
+-- such a plan, and all have the same runtime data
 pub record HasRuntimeSize (options : ImageOptions) (imports : ℕ) (memories : List ImageMemory) (active : List ActiveSegment)
     (passive : List (List ℕ)) (P : ℕ → Type 0) : Type 0 where
   pub plan : MemoryPlan
   pub is_plan : IsMemoryPlan options imports memories active passive plan
   pub size : P (sum_by length plan.runtime)
 
--- a plan of a translation's memories does
+-- the same of a plan of a translation's memories
 abbrev pub WillHaveRuntimeSize : ImageOptions → ModuleTranslation → (ℕ → Type 0) → Type 0
 WillHaveRuntimeSize options t P =
     HasRuntimeSize options t.module.num_imported_memories (image_memories t.module) (initializers_of t) (passive_bytes t) P
@@ -66,7 +66,7 @@ AreSized options t (Some images) = IsStatic options t.module.num_imported_memori
     × AreImages options.page (length t.module.memories) (initializers_of t) (view_images images.items)
     × (sum_by length (passive_bytes t) + sum_by length (image_bytes (view_images images.items)) < 2 ^ 32)
 
--- the memories begin as images of pages of a size, which are the next runtime data
+-- the memories begin as images of pages of this size, which are the next runtime data
 pub record BeginsAsImages (page_size : ℕ) (images : List (Option MemoryImage)) (old new : ModuleTranslation) : Type 0 where
   pub in_map : images_of new.module.memory_initialization ≡ image_map (length old.runtime_data) images
   pub static : IsSegmented new.module.memory_initialization → ⊥
@@ -80,14 +80,14 @@ pub record BeginsAsImages (page_size : ℕ) (images : List (Option MemoryImage))
     data_align = Some page_size;
   }
 
--- segments are left to be written, from the next runtime data
+-- segments remain to be written, from the next runtime data
 pub record KeepsSegments (active : List ActiveSegment) (old new : ModuleTranslation) : Type 0 where
   pub in_list : processed_of new.memory_init ≡ planned_from (length old.runtime_data) active
   pub processed : IsProcessed new.memory_init
   pub runtime : map bytes_of new.runtime_data ≡ map bytes_of old.runtime_data ++ map (λ s. s.bytes) active
   pub same : new ≡ record old { runtime_data = new.runtime_data; memory_init = new.memory_init }
 
--- one of these, by whether there are images
+-- one of these two, by whether there are images
 abbrev pub Begins : ℕ → Option (Vec (Option Image)) → List ActiveSegment → ModuleTranslation → ModuleTranslation → Type 0
 Begins page_size None active old new = KeepsSegments active old new
 Begins page_size (Some images) active old new = BeginsAsImages page_size (view_images images.items) old new

@@ -1,5 +1,5 @@
--- Startup of a translation, and how a call raises it: a type that stands is kept, and otherwise it
--- is the one that the builder gives.
+-- Startup of a translation, and how a call changes it: an existing startup type is kept, and
+-- otherwise the builder gives one.
 use Rattle.wasm_index.specs.Index.{index_of}
 use Rattle.wasm_types.specs.declared.index.EngineOrModuleTypeIndex.{EngineOrModuleTypeIndex}
 use Rattle.wasm_types.specs.declared.index.EngineOrModuleTypeIndex.TheVariants.{Module}
@@ -15,24 +15,24 @@ startup_kind startup.None = Never
 startup_kind (startup.Always ty) = Always
 startup_kind (startup.IfMemoriesNeedInit ty) = IfMemoriesNeedInit
 
--- where memories need their images, unless it runs already
+-- startup where memories need their images, unless there is startup already
 abbrev pub with_images : Startup → Startup
 with_images Never = IfMemoriesNeedInit
 with_images kind = kind
 
--- startup that runs then, with a type
+-- startup of this kind, with a type
 abbrev pub startup_with : Startup → EngineOrModuleTypeIndex → ModuleStartup
 startup_with Never ty = startup.None
 startup_with Always ty = startup.Always ty
 startup_with IfMemoriesNeedInit ty = startup.IfMemoriesNeedInit ty
 
--- the type that stands, or else another
+-- the existing type, or else another
 abbrev pub standing_or : ModuleStartup → EngineOrModuleTypeIndex → EngineOrModuleTypeIndex
 standing_or startup.None ty = ty
 standing_or (startup.Always standing) ty = standing
 standing_or (startup.IfMemoriesNeedInit standing) ty = standing
 
--- startup that runs then, from one that stands and a builder
+-- startup of this kind, from an earlier one and a builder
 abbrev pub raised : Startup → ModuleStartup → Builder → ModuleStartup
 raised kind before types = startup_with kind (standing_or before (Module (index_of (startup_index types))))
 

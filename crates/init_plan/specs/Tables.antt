@@ -21,12 +21,12 @@ tables_of t = defined_tables_of (own_tables t) t.table_initialization.initial_va
 abbrev pub elements_of : ModuleTranslation → List ActiveElements
 elements_of t = map active_elements_of t.table_initialization.segments.items
 
--- what a translation says of tables
+-- the tables of a translation, as a plan
 abbrev pub plan_of_tables : ModuleTranslation → TablePlan
 plan_of_tables t = table_plan_of (own_tables t) t.table_initialization.initial_values t.table_initialization.segments.items
     (images_of t.module.table_initialization)
 
--- a cell that is a function names one below the number of functions
+-- a cell that is a function has an index below the number of functions
 abbrev pub IsAmong : ℕ → Option ℕ → Type 0
 IsAmong functions cell = IfSome cell (λ function. function < functions)
 
@@ -52,7 +52,8 @@ pub record AreCounted (t : ModuleTranslation) : Type 0 where
 abbrev pub startup_with_tables : ModuleTranslation → TablePlan → Startup
 startup_with_tables t plan = raised_by_tables plan (startup_kind t.module.startup)
 
--- of a translation, the plan of tables writes the images, how the tables begin, and startup, and nothing else
+-- the plan of tables writes only these parts of a translation: the images, the initialisation of
+-- tables, and startup
 abbrev pub OnlyTableInitChanges : ModuleTranslation → ModuleTranslation → Type 0
 OnlyTableInitChanges old new = new ≡ record old {
   «module» = record old.module { table_initialization = new.module.table_initialization; startup = new.module.startup };

@@ -76,11 +76,11 @@ hints_of t function = option_map (λ hints. hints.items) (lookup (λ index. nat_
 abbrev pub passive_bytes : ModuleTranslation → List (List ℕ)
 passive_bytes t = map (λ p. p.1) (passive_data_of t)
 
--- how many bytes active and passive segments hold together
+-- the number of bytes of active and passive segments together
 abbrev pub total_bytes : List ActiveSegment → List (ℕ × List ℕ) → ℕ
 total_bytes active passive = sum_by length (map (λ s. s.bytes) active) + sum_by length (map (λ p. p.1) passive)
 
--- how many bytes the data segments hold together
+-- the number of bytes of the data segments together
 abbrev pub data_total : ModuleTranslation → ℕ
 data_total t = total_bytes (initializers_of t) (passive_data_of t)
 
@@ -114,7 +114,7 @@ abbrev pub IsPlace : MemorySegmentOffset → Type 0
 IsPlace (offset.Expr e) = ⊥
 IsPlace (offset.Static place) = Unit {0}
 
--- what a translation says of memories
+-- the memories of a translation, as a plan
 abbrev pub memory_plan_of : ModuleTranslation → MemoryPlan
 memory_plan_of t = record {
   sizes = defined_sizes t.module;
@@ -138,10 +138,11 @@ abbrev pub FindsInOrder : List (List ℕ) → (ℕ → Option ℕ) → ℕ → L
 FindsInOrder runtime found index [] = Unit {0}
 FindsInOrder runtime found index (p ∷ ps) = (found p.0 ≡ Some index) × (slice_get runtime index ≡ Some p.1) × FindsInOrder runtime found (index + 1) ps
 
--- ---- what stays
+-- ---- what is unchanged
 
--- of a translation, the plan of memories writes how memories begin, the ranges of runtime data,
--- these data, where passive segments find theirs, the segments, and the alignment of images
+-- the plan of memories writes only these parts of a translation: the initialisation of memories,
+-- the ranges of runtime data, these data, the indices of passive segments among them, the segments,
+-- and the alignment of images
 abbrev pub OnlyMemoriesChange : ModuleTranslation → ModuleTranslation → Type 0
 OnlyMemoriesChange old new = new ≡ record old {
   «module» = record old.module { memory_initialization = new.module.memory_initialization; runtime_data = new.module.runtime_data };
@@ -151,7 +152,7 @@ OnlyMemoriesChange old new = new ≡ record old {
   data_align = new.data_align;
 }
 
--- the same, and startup
+-- the same parts, and startup
 abbrev pub OnlyMemoryInitChanges : ModuleTranslation → ModuleTranslation → Type 0
 OnlyMemoryInitChanges old new = new ≡ record old {
   «module» = record old.module {
@@ -165,19 +166,19 @@ OnlyMemoryInitChanges old new = new ≡ record old {
   data_align = new.data_align;
 }
 
--- all but the passive data
+-- all except the passive data
 abbrev pub SameButPassive : ModuleTranslation → ModuleTranslation → Type 0
 SameButPassive old new = new ≡ record old { private_parts = record old.private_parts { passive_data = new.private_parts.passive_data } }
 
--- all but the types by ids
+-- all except the types by ids
 abbrev pub SameButTypes : ModuleTranslation → ModuleTranslation → Type 0
 SameButTypes old new = new ≡ record old { private_parts = record old.private_parts { types = new.private_parts.types } }
 
--- all but the hints
+-- all except the hints
 abbrev pub SameButHints : ModuleTranslation → ModuleTranslation → Type 0
 SameButHints old new = new ≡ record old { private_parts = record old.private_parts { branch_hints = new.private_parts.branch_hints } }
 
--- all but the active data segments
+-- all except the active data segments
 abbrev pub SameButSegments : ModuleTranslation → ModuleTranslation → Type 0
 SameButSegments old new = new ≡ record old { memory_init = new.memory_init }
 

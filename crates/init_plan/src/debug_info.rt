@@ -23,35 +23,36 @@ pub struct NameSection<'d> {
     pub locals_names: BTreeMap<FuncIndex, BTreeMap<u32, &'d str>>,
 }
 
-/// Where the code of a module stands in its file, and the metadata of its functions.
+/// The offset of a module's code in its file, and the metadata of its functions.
 #[derive(Drop)]
 pub struct WasmFileInfo {
-    /// Where the contents of the code section begin in the file, in bytes, or 0 without a code section.
+    /// The offset in the file of the contents of the code section, in bytes, or 0 without a code
+    /// section.
     pub code_section_offset: u64,
     /// How many functions are imported.
     pub imported_func_count: u32,
-    /// The functions that are defined, in order, where they are asked for.
+    /// The functions that are defined, in order, where they are requested.
     pub funcs: Vec<FunctionMetadata>,
 }
 
 /// The metadata of a function: the types of its parameters and locals.
 #[derive(Drop)]
 pub struct FunctionMetadata {
-    /// One list for all functions of a type: many functions may have a wide one.
+    /// One shared list for all functions of a type: many functions may have a long one.
     pub params: Rc<Vec<WasmValType>>,
-    /// Runs of locals of one type, with their lengths.
+    /// Runs of locals of the same type, with their lengths.
     pub locals: Vec<(u32, WasmValType)>,
 }
 
 /// Whether a branch of a function is likely to be taken.
 #[derive(Clone, Copy, Debug, PartialEq, Eq)]
 pub struct BranchHint {
-    /// Where the branch stands, in bytes from the beginning of the function's body.
+    /// The offset of the branch, in bytes from the beginning of the function's body.
     pub func_offset: u32,
     pub taken: bool,
 }
 
-// One call in place of a walk over the parts, wherever a translation is dropped.
+// One call instead of a drop of each part, wherever a translation is dropped.
 impl Drop for DebugInfoData<'_> {
     fn drop(self) {
         let DebugInfoData {

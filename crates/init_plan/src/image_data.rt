@@ -20,7 +20,7 @@ pub(crate) struct KeptImages {
     pub(crate) listed: Vec<(MemoryIndex, MemorySegmentOffset, RuntimeDataIndex)>,
 }
 
-// Appends the bytes of images to the runtime data, and keeps where each lies.
+// Appends the bytes of images to the runtime data, and records the offset and the index of each.
 pub(crate) fn keep_images(
     alloc: Global,
     images: Vec<Option<Image>>,

@@ -1,5 +1,5 @@
-//! What a translation holds of a module's lists has the phases of these lists: what a plan leaves
-//! of the translation, it leaves of the module.
+//! A translation that holds a module's lists has the phases of these lists. So a plan leaves for
+//! the module what it leaves for the translation.
 
 ghost use Rattle.std.specs.Prelude.{◌≡◌, map};
 ghost use Rattle.wasm_spec.specs.Module.{Module, defined_memories};
@@ -29,7 +29,7 @@ pub fn held_agreement_laws()
         → AgreesOnGlobals (lists_of_module m).imported_globals (initialisers (lists_of_module m)) (plan_of_globals t) }
 {}
 
-/// Globals, memories and tables agree together, over the values that the globals come to.
+/// Globals, memories and tables agree together, over the final values of the globals.
 pub fn agreement_law()
     ensures { (m : Module) (globals : GlobalPlan) (memories : MemoryPlan) (tables : TablePlan)
         → AgreesOnGlobals (lists_of_module m).imported_globals (initialisers (lists_of_module m)) globals

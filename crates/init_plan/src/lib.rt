@@ -12,7 +12,7 @@
 //! let align = translation.data_align; // None without images of memories
 //! ```
 //!
-//! The calls may come in either order. After an error the translation may only be dropped.
+//! The calls may be made in either order. After an error the translation may only be dropped.
 //!
 //! Read on: `translation` has the fields, `memory_startup` and `table_init` the calls; `run_laws`
 //! proves what a plan can cost.

@@ -55,7 +55,7 @@ impl<'d> ModuleTranslation<'d> {
         }
     }
 
-    // Plans the active data segments, all but the startup that they need. The memories begin as
+    // Plans the active data segments, except the startup that they require. The memories begin as
     // these images, where there are some.
     pub(crate) fn plan_memories(
         &mut self,
@@ -78,7 +78,7 @@ impl<'d> ModuleTranslation<'d> {
         ensures agrees { OnOk result (AgreesOver self.old.module.num_imported_memories (defined_sizes self.old.module)
             (initializers_of self.old) (memory_plan_of self.new)) }
 
-        // Runtime data stand end to end from 0.
+        // Runtime data are contiguous from 0.
         ensures ranges { OnOk result (ranges_of self.new.module ≡ ranges_from 0 (map length (memory_plan_of self.new).runtime)) }
 
         // Each passive segment is found with its bytes, in order after the other runtime data, and
@@ -102,7 +102,8 @@ impl<'d> ModuleTranslation<'d> {
         Ok(())
     }
 
-    // The memories begin as images where there are some, and else every segment is left to be written.
+    // The memories begin as images where there are some; otherwise every segment remains to be
+    // written.
     fn begin_memories(
         &mut self,
         alloc: Global,
@@ -142,7 +143,7 @@ impl<'d> ModuleTranslation<'d> {
         Ok(())
     }
 
-    // Every segment is left to be written.
+    // Every segment remains to be written.
     fn keep_segments(
         &mut self,
         alloc: Global,
@@ -157,7 +158,7 @@ impl<'d> ModuleTranslation<'d> {
         Ok(())
     }
 
-    // The active segments, which are taken out to be planned.
+    // The active segments, which are removed to be planned.
     fn take_segments(&mut self, alloc: Global) -> Vec<MemoryInitializer<'d>>
         requires { IsUnprocessed self.old.memory_init }
         ensures taken { map active_segment_of result.items ≡ initializers_of self.old }

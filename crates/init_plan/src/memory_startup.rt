@@ -23,10 +23,10 @@ use wasm_module::MemoryInitialization;
 use wasm_types::Tunables;
 
 impl ModuleTranslation<'_> {
-    /// Plans the active data segments: images that the memories begin as, or what is kept to be
-    /// written, and the runtime data that holds the bytes. Pages of images are of `page_size`
-    /// bytes, and an extent below `max_image` bytes is always dense enough. Startup is raised by
-    /// what is kept and by images. After an error the translation may only be dropped.
+    /// Plans the active data segments: images that the memories begin as, or segments that are kept
+    /// to be written, and the runtime data that holds the bytes. Pages of images have `page_size`
+    /// bytes, and an extent below `max_image` bytes is always dense enough. Kept segments and
+    /// images require startup. After an error the translation may only be dropped.
     ///
     /// # Errors
     /// `TooLarge` where the runtime data pass 4294967295 bytes, before an image is made and
@@ -58,7 +58,7 @@ impl ModuleTranslation<'_> {
         ensures tight { OnOk result (HasTightImages (image_options tunables.now page_size max_image) self.old.module.num_imported_memories
             (image_memories self.old.module) (initializers_of self.old) (passive_bytes self.old) (memory_plan_of self.new)) }
 
-        // Runtime data stand end to end from 0, those of images from page to page.
+        // Runtime data are contiguous from 0, those of images from page to page.
         ensures ranges { OnOk result (ranges_of self.new.module ≡ ranges_from 0 (map length (memory_plan_of self.new).runtime)) }
         ensures whole_ranges { OnOk result (HasWholeRanges page_size (memory_plan_of self.new).images (ranges_of self.new.module)) }
 
@@ -69,8 +69,8 @@ impl ModuleTranslation<'_> {
         ensures others { OnOk result ((index : ℕ) → ¬ Contains (map (λ p. p.0) (passive_data_of self.old)) index →
             (memory_plan_of self.new).passive index ≡ None) }
 
-        // Startup is raised by what is kept and by images, and the builder gains its type where it
-        // is raised from none.
+        // Kept segments and images require startup, and the builder gains its type where there was
+        // none before.
         ensures startup { let kind = raised_by_memories (memory_plan_of self.new) (startup_kind self.old.module.startup) in
             OnOk result (self.new.module.startup ≡ raised kind self.old.module.startup (builder_view types.old)) }
         ensures types { let kind = raised_by_memories (memory_plan_of self.new) (startup_kind self.old.module.startup) in
@@ -86,13 +86,13 @@ impl ModuleTranslation<'_> {
         ensures large { WillHaveRuntimeSize (image_options tunables.now page_size max_image) self.old (λ size. 2 ^ 32 ≤ size)
             → (result ≡ Err PlanError.TooLarge) ⊎ (result ≡ Err PlanError.OutOfMemory) }
 
-        // Poisoned where the builder was, unless another refusal came before.
+        // Poisoned where the builder was, unless another error came first.
         ensures usable { OnOk result (types.old.is_poisoned ≡ false) }
         ensures poisoned { result ≡ Err PlanError.Poisoned → types.old.is_poisoned ≡ true }
         ensures poisoned_alone { WillHaveRuntimeSize (image_options tunables.now page_size max_image) self.old (λ size. size < 2 ^ 32)
             → types.old.is_poisoned ≡ true → (result ≡ Err PlanError.Poisoned) ⊎ (result ≡ Err PlanError.OutOfMemory) }
 
-        // Where images are off nothing is allocated before either is told.
+        // Where images are off nothing is allocated before either error is returned.
         ensures too_large_without_images { tunables.now.memory_init_cow ≡ false → 2 ^ 32 ≤ data_total self.old → result ≡ Err PlanError.TooLarge }
         ensures poisoned_without_images { tunables.now.memory_init_cow ≡ false → data_total self.old < 2 ^ 32 → types.old.is_poisoned ≡ true
             → result ≡ Err PlanError.Poisoned }
@@ -117,7 +117,7 @@ impl ModuleTranslation<'_> {
     }
 
     // Startup, where the memories are planned: segments that are kept are always written, and
-    // images are laid where memories need them.
+    // images are written where memories need them.
     fn raise_startup_by_memories(
         &mut self,
         types: &mut ModuleTypesBuilder,
@@ -148,7 +148,7 @@ fn are_images(segments: &[(MemoryIndex, MemorySegmentOffset, RuntimeDataIndex)])
     segments.iter().all(|segment| matches!(segment.1, MemorySegmentOffset::Static(_)))
 }
 
-// Whether no segment is left to be written.
+// Whether no segment remains to be written.
 fn keeps_none(init: &MemoryInit<'_>) -> bool
     requires { IsProcessed init.now }
     ensures { (plan : MemoryPlan) → result ≡ is_empty (filter_map (λ s. left_to_write plan s.offset s.memory s.index) (processed_of init.now)) }

@@ -1,4 +1,4 @@
-//! What a translation holds and only its calls show.
+//! Data of a translation that only its methods show.
 
 ghost use Rattle.std.specs.Prelude.{◌≡◌, [], None};
 
@@ -15,7 +15,7 @@ pub struct PrivateParts<'d> {
     pub branch_hints: BTreeMap<FuncIndex, Vec<BranchHint>>,
 }
 
-// One call in place of a walk over the parts, wherever a translation is dropped.
+// One call instead of a drop of each part, wherever a translation is dropped.
 impl Drop for PrivateParts<'_> {
     fn drop(self) {
         let PrivateParts {
@@ -27,7 +27,7 @@ impl Drop for PrivateParts<'_> {
 }
 
 impl PrivateParts<'_> {
-    /// Nothing of the three.
+    /// Empty values of the three.
     pub fn new(alloc: Global) -> Self
         ensures passive_data { result.passive_data.items ≡ [] }
         ensures types { result.types ≡ None }

@@ -1,4 +1,4 @@
-//! The bytes of data segments, one after another.
+//! The bytes of data segments, concatenated.
 
 ghost use Rattle.std.specs.Prelude.{◌≡◌, ◌+◌, ◌^◌, ◌<◌, ◌≤◌, ◌++◌, ℕ, length, map, sum_by, nat_eq, All, Contains, IfOk, IfErr, OnOk};
 ghost use Rattle.std.specs.List.{IsDistinct};
@@ -16,7 +16,7 @@ use std::ops::Range;
 use wasm_index::{DataIndex, MemoryIndex, RuntimeDataIndex};
 use wasm_module::MemoryInitializer;
 
-// Tells whether 32 bits hold the number of bytes of all data segments together.
+// Whether 32 bits hold the number of bytes of all data segments together.
 #[tactic(auto, using(crate::proofs::Totals::totals))]
 pub(crate) fn check_total(
     active: &[MemoryInitializer],
@@ -76,7 +76,8 @@ fn with_length(before: u32, bytes: &[u8]) -> Result<u32, PlanError>
     Ok(before + bytes.len() as u32)
 }
 
-// Appends the bytes of active segments to the runtime data, and keeps each segment to be written from there.
+// Appends the bytes of active segments to the runtime data, and keeps each segment to be written
+// from there.
 pub(crate) fn keep_active<'d>(
     alloc: Global,
     segments: Vec<MemoryInitializer<'d>>,
@@ -98,7 +99,8 @@ pub(crate) fn keep_active<'d>(
     Ok(kept)
 }
 
-// Appends the bytes of passive segments to the runtime data, where their indices find them.
+// Appends the bytes of passive segments to the runtime data, and maps each segment's index to its
+// index there.
 pub(crate) fn keep_passive<'d>(
     segments: &[(DataIndex, &'d [u8])],
     runtime_data: &mut PrimaryMap<RuntimeDataIndex, RuntimeBytes<'d>>,
@@ -121,7 +123,7 @@ pub(crate) fn keep_passive<'d>(
     Ok(())
 }
 
-// The ranges of runtime data that stand end to end from 0.
+// The ranges of runtime data that are contiguous from 0.
 pub(crate) fn ranges_end_to_end(
     alloc: Global,
     runtime_data: &PrimaryMap<RuntimeDataIndex, RuntimeBytes>,

@@ -1,4 +1,4 @@
-//! Startup: what is left to be done when a module is instantiated needs a function, and so its type.
+//! Startup: the remaining work at instantiation needs a function, and so its type.
 
 ghost use Rattle.std.specs.Prelude.{◌≡◌, ◌↔◌, ◌<◌, length, true, false, Err, IfOk, OnOk, OnErr};
 ghost use Rattle.wasm_index.specs.Index.{index_of};
@@ -13,7 +13,7 @@ use wasm_module::ModuleStartup;
 use wasm_types::EngineOrModuleTypeIndex;
 
 impl ModuleTranslation<'_> {
-    /// The module needs a startup function that always runs. A type of startup that stands is kept;
+    /// The module needs a startup function that always runs. An existing startup type is kept;
     /// otherwise the builder gives it.
     ///
     /// # Errors
@@ -31,7 +31,7 @@ impl ModuleTranslation<'_> {
     }
 
     /// The module needs a startup function where its memories do not begin as their images, unless
-    /// one stands already.
+    /// it has one already.
     ///
     /// # Errors
     /// `Poisoned` where the builder is, and `OutOfMemory`, after which it is.
@@ -55,7 +55,7 @@ impl ModuleTranslation<'_> {
     }
 }
 
-/// The type of startup that stands, or else the one that the builder gives.
+/// The existing type of startup, or else the one that the builder gives.
 fn startup_type(
     startup: &ModuleStartup,
     types: &mut ModuleTypesBuilder,

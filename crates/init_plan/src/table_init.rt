@@ -40,12 +40,13 @@ impl ModuleTranslation<'_> {
             (tables_of self.old) (elements_of self.old) (plan_of_tables self.new)) }
         ensures agrees { OnOk result (AgreesOnTables self.old.module.num_imported_tables (tables_of self.old) (elements_of self.old) (plan_of_tables self.new)) }
 
-        // What is kept is the very value that stood there, and each defined table has one initial
-        // value and one image.
+        // Each initialiser or segment that is kept is the value that was there before, and each
+        // defined table has one initial value and one image.
         ensures left { OnOk result (IsLeft self.old.table_initialization self.new.table_initialization) }
         ensures counts { OnOk result (AreCounted self.new) }
 
-        // Startup is raised by what is kept, and the builder gains its type where it is raised from none.
+        // What is kept requires startup, and the builder gains its type where there was none
+        // before.
         ensures startup { let kind = startup_with_tables self.old (plan_of_tables self.new) in
             OnOk result (self.new.module.startup ≡ raised kind self.old.module.startup (builder_view types.old)) }
         ensures types { let kind = startup_with_tables self.old (plan_of_tables self.new) in
@@ -106,7 +107,7 @@ impl ModuleTranslation<'_> {
     }
 }
 
-// Whether each table holds null at first, but for the cells of its image.
+// Whether each table holds null at first, except for the cells of its image.
 fn are_null(values: &[TableInitialValue]) -> bool
     ensures { IsTrue result ↔ All (λ value. value ≡ TableInitialValue.Null) values.now }
 {

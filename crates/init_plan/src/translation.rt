@@ -19,13 +19,13 @@ use wasm_index::{
 };
 use wasm_module::{MemoryInitializer, Module, TableInitialization, TableSegmentElements};
 
-/// A translated module, and what is known of it only while it is compiled.
+/// A translated module, and the data that is needed only while it is compiled.
 #[derive(Drop)]
 pub struct ModuleTranslation<'d> {
     pub module: Module,
     /// The bytes that were translated.
     pub wasm: &'d [u8],
-    /// Where these bytes begin in the whole input.
+    /// The offset of these bytes in the complete input.
     pub wasm_module_offset: u64,
     /// The body of each defined function.
     pub function_body_inputs: PrimaryMap<DefinedFuncIndex, FunctionBodyData<'d>>,
@@ -39,7 +39,7 @@ pub struct ModuleTranslation<'d> {
     pub data_align: Option<u64>,
     /// The runtime data of each passive data segment.
     pub runtime_data_map: SecondaryMap<DataIndex, Option<RuntimeDataIndex>>,
-    /// The number of each passive element segment among those.
+    /// The number of each passive element segment among the passive ones.
     pub passive_elem_map: SecondaryMap<ElemIndex, Option<PassiveElemIndex>>,
     /// The bytes of each runtime data.
     pub runtime_data: PrimaryMap<RuntimeDataIndex, RuntimeBytes<'d>>,
@@ -49,7 +49,7 @@ pub struct ModuleTranslation<'d> {
     pub global_initializers: Vec<(DefinedGlobalIndex, ConstExpr)>,
     /// The elements of each passive element segment.
     pub passive_elements: PrimaryMap<PassiveElemIndex, TableSegmentElements>,
-    /// How the tables begin, before and after they are planned.
+    /// The initialisation of the tables, before and after they are planned.
     pub table_initialization: TableInitialization,
     /// The active data segments, before and after they are planned.
     pub memory_init: MemoryInit<'d>,
@@ -74,16 +74,16 @@ pub enum RuntimeBytes<'d> {
 pub enum MemoryInit<'d> {
     /// As the module has them, in order.
     Unprocessed(Vec<MemoryInitializer<'d>>),
-    /// As they are planned: what is to be written, in order, and its runtime data.
+    /// As they are planned: the segments to be written, in order, and their runtime data.
     Processed(Vec<(MemoryIndex, MemorySegmentOffset, RuntimeDataIndex)>),
 }
 
-/// Where a planned segment begins in its memory.
+/// The offset in its memory of a planned segment.
 #[derive(Drop)]
 pub enum MemorySegmentOffset {
     /// At the value of an expression.
     Expr(ConstExpr),
-    /// At this byte.
+    /// At this byte offset.
     Static(u64),
 }
 
@@ -101,7 +101,7 @@ impl<'d> MemoryInit<'d> {
 }
 
 impl<'d> RuntimeBytes<'d> {
-    /// The number of the bytes.
+    /// The length in bytes.
     pub(crate) fn len(&self) -> usize
         ensures { result ≡ length (bytes_of self.now) }
     {
@@ -141,14 +141,14 @@ impl<'d> ModuleTranslation<'d> {
         })
     }
 
-    /// The number of the module among those that are translated together.
+    /// The index of the module among those that are translated together.
     pub fn module_index(&self) -> StaticModuleIndex
         ensures { result ≡ self.now.module.module_index }
     {
         self.module.module_index
     }
 
-    /// Notes a passive data segment, after those that were noted before.
+    /// Records a passive data segment, after those that were recorded before.
     pub fn push_passive_data(
         &mut self,
         index: DataIndex,

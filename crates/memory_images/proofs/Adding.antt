@@ -17,11 +17,11 @@ use Rattle.memory_images.specs.Views.{image_memory}
 use Rattle.memory_images.proofs.Lists.{some_at}
 
 module _ (x : Laid) (s : ActiveSegment) (start : start_of s ≡ x.start) (bytes : x.bytes.now ≡ s.bytes) where
-  -- a segment lays its bytes into its own memory
+  -- a segment writes its bytes into its own memory
   here : map piece_of (unless_empty x) ≡ map laid_piece (bytes_on s.memory (s ∷ []))
   here = grind (arith, eq-eqb, lt-ltb, and_from, le-ltb, and_right)
 
-  -- and none into another
+  -- and no bytes into another memory
   elsewhere : (m : ℕ) → s.memory ≢ m → bytes_on m (s ∷ []) ≡ []
   elsewhere m off = let test = and_left (s.memory == m) (nat_lt 0 (length s.bytes)) (ne_eqb s.memory m off) in rw test refl
 
@@ -45,6 +45,6 @@ module _ (x : Laid) (s : ActiveSegment) (start : start_of s ≡ x.start) (bytes 
     each = grind (arith, added, filter-append, map-append);
   }
 
--- a placed segment is on one of the memories
+-- a placed segment is in one of the memories
 pub in_range : (imports : ℕ) (memories : List Memory) (s : ActiveSegment) → IsPlaced imports (map image_memory memories) s → s.memory < imports + length memories
 in_range imports memories s p = grind (arith, slice_get_within, length-map)

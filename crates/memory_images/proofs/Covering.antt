@@ -1,4 +1,4 @@
--- The last piece that covers a place, and the byte there.
+-- The last piece that covers an offset, and the byte there.
 use Rattle.std.proofs.Common.{◌≡◌, ℕ, suc, ◌+◌, ◌-◌, ◌<◌, ◌≤◌, Bool, true, false, List, [], ◌∷◌, map, get_or, Option, Some, None, ◌⊎◌, refl, ◌∙◌, ap, arith}
 use Rattle.std.specs.Prelude.{slice_get, unwrap_or}
 use Rattle.std.proofs.lemmas.Bool.{le-leb}
@@ -9,7 +9,7 @@ use Rattle.memory_images.specs.declared.laid.Laid.{Laid}
 use Rattle.replay_spec.specs.Phases.{item_at, last_item}
 use Rattle.memory_images.specs.Contents.{piece_of, contents_of, end_of, pair_of}
 
--- number s of laid bytes covers a place, whose byte is b
+-- piece number s covers an offset, where its byte is b
 pub record Covering (laid : List Laid) (s place b : ℕ) : Type 0 where
   pub part : Laid
   pub is_part : slice_get laid s ≡ Some part
@@ -17,7 +17,7 @@ pub record Covering (laid : List Laid) (s place b : ℕ) : Type 0 where
   pub upto : place < end_of part
   pub byte : b ≡ get_or part.bytes.now (place - part.start) 0
 
--- what stands at a place, where the first has number n and d stood there before
+-- the byte at an offset, where the first piece has number n and the byte d was there before
 record Numbered (n d place : ℕ) (laid : List Laid) (s : ℕ) : Type 0 where
   number : ℕ
   is : s ≡ n + number
@@ -42,7 +42,7 @@ within_is start end place h = (grind (arith, nat_tests), grind (arith, nat_tests
 not_within : (start end place : ℕ) → is_within start end place ≡ false → (place < start) ⊎ (end ≤ place)
 not_within start end place h = grind (arith, nat_tests)
 
--- what a piece gives at a place
+-- the byte that a piece gives at an offset
 pub covers : (x : Laid) (place : ℕ) → x.start ≤ place → place < end_of x → item_at 0 place (piece_of x) ≡ Some (get_or x.bytes.now (place - x.start) 0)
 covers x place h l = rw (le-leb x.start place h) (slice_get-get_or x.bytes.now (place - x.start) 0 (omega arith))
 
@@ -63,7 +63,7 @@ told n d place (x ∷ xs) = over (last_cover_from (suc n) place (map pair_of xs)
   over None true is t = grind (arith, within_is, covers)
   over None false is t = t ∙ ap (λ (o : Option ℕ). unwrap_or o d) (misses x place (not_within x.start (end_of x) place is))
 
--- the byte at a place is that of its last cover
+-- the byte at an offset is the byte of the last piece that covers it
 pub covered : (laid : List Laid) (place s : ℕ) → last_cover_from 0 place (map pair_of laid) ≡ Some s → Covering laid s place (contents_of laid place)
 covered laid place s e = grind (arith, told 0 0 place laid)
 

@@ -1,4 +1,4 @@
--- The extent and the number of laid bytes are those of their segments.
+-- The extent and the byte count of the pieces are those of their segments.
 use Rattle.std.proofs.Common.{◌≡◌, ℕ, ◌+◌, ◌-◌, ◌^◌, ◌<◌, ◌≤◌, List, [], ◌∷◌, length, map, sum_by, fold, min, max, All, refl, sym, ◌∙◌, ap, subst, arith}
 use Rattle.std.proofs.lemmas.List.Folds.{fold-map}
 use Rattle.replay_spec.specs.Phases.{Piece}
@@ -9,7 +9,7 @@ use Rattle.memory_images.specs.Contents.{piece_of, end_of as laid_end}
 use Rattle.memory_images.specs.Layout.{laid_piece}
 use Rattle.std.proofs.lemmas.List.Elements.{All-map}
 
--- the least start, at most the greatest number of 64 bits
+-- the least start, or the greatest 64-bit number if that is less
 abbrev pub low_of : List Laid → ℕ
 low_of laid = fold (λ n x. min n x.start) (2 ^ 64 - 1) laid
 

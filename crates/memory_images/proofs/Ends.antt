@@ -25,7 +25,7 @@ module _ (contents : ℕ → ℕ) (A B C : ℕ → Type 0) (split : (place : ℕ
   pub ends_joined : (a b : Option Ends) → EndsOf contents A a → EndsOf contents B b → EndsOf contents C (joined a b)
   ends_joined a b h k = grind arith
 
--- ---- all that is laid
+-- ---- all pieces
 
 module _ (below above : ℕ → ℕ) (x : Laid) (over : (place : ℕ) → above place ≡ unwrap_or (item_at 0 place (piece_of x)) (below place)) where
   by_place : (place : ℕ) → (above place ≡ below place) ⊎ (Within x place × (above place ≡ byte_in x place))
@@ -36,12 +36,12 @@ module _ (below above : ℕ → ℕ) (x : Laid) (over : (place : ℕ) → above 
 
 -- ---- all ranges
 
--- the ends of what is cut along a range are those of the contents there
+-- the ends of a piece cut to a range are the ends of the contents in that range
 pub ends_cut : (laid : List Laid) (range : Written) (x : Laid) (ends : Option Ends) → IsCut laid range x → EndsOf (byte_in x) (Within x) ends
     → IfSome ends (λ ends. Within x ends.first × Within x ends.last) → EndsOf (contents_of laid) (IsIn range) ends
 ends_cut laid range x ends cut h within = grind arith
 
--- a place lies in one of so many ranges
+-- an offset is in one of the ranges
 pub record LiesIn (ranges : List Written) (count place : ℕ) : Type 0 where
   pub index : ℕ
   pub range : Written
@@ -65,7 +65,7 @@ module _ (laid : List Laid) (ranges : List Written) (written : AreWritten (map p
       let e : end_of d.part ≡ end_of c.part = ap end_of same in
       grind (arith, covering k w g, two_some)
 
-  -- where no range lies all is zero
+  -- outside all ranges every byte is zero
   zero_or_in : (place : ℕ) → (contents_of laid place ≡ 0) ⊎ LiesIn ranges (length ranges) place
   zero_or_in place = over (last_cover_from 0 place (map pair_of laid)) refl where
     over : (o : Option ℕ) → last_cover_from 0 place (map pair_of laid) ≡ o → (contents_of laid place ≡ 0) ⊎ LiesIn ranges (length ranges) place
@@ -77,7 +77,7 @@ module _ (laid : List Laid) (ranges : List Written) (written : AreWritten (map p
   pub everywhere : (ends : Option Ends) → EndsOf (contents_of laid) (LiesIn ranges (length ranges)) ends → EndsOf (contents_of laid) (λ _. ⊤) ends
   everywhere ends h = grind (arith, zero_or_in)
 
--- ---- the pages round the ends
+-- ---- the pages around the ends
 
 pub page_order : (first last page : ℕ) → 0 < page → first ≤ last → first - first % page ≤ last - last % page
 page_order first last page pos order = grind (arith, div-mul-le_self, le-div, mul-le-mul_right)

@@ -1,4 +1,4 @@
--- Bytes that are laid over others, in turn.
+-- Bytes that are written over others, in order.
 use Rattle.std.proofs.Common.{◌≡◌, ℕ, ◌+◌, ◌-◌, ◌<◌, ◌≤◌, List, [], ◌∷◌, ◌++◌, length, map, take, drop, get_or, min, max, refl, ◌∙◌, ap, arith, length-append, length-drop}
 use Rattle.std.specs.Prelude.{unwrap_or}
 use Rattle.std.specs.List.{refill}
@@ -13,12 +13,12 @@ last-push : (place d : ℕ) (ps : List (Piece ℕ)) (p : Piece ℕ) → last_ite
 last-push place d [] p = refl
 last-push place d (q ∷ ps) p = last-push place (unwrap_or (item_at 0 place q) d) ps p
 
--- one more is laid over what stands
+-- one more piece is written over the present bytes
 pub contents_more : (laid : List Laid) (i place : ℕ) (d : Laid) → i < length laid
     → contents_of (take (i + 1) laid) place ≡ unwrap_or (item_at 0 place (piece_of (get_or laid i d))) (contents_of (take i laid) place)
 contents_more laid i place d l = ap (last_item 0 place 0) (map_more piece_of laid i d l) ∙ last-push place 0 (map piece_of (take i laid)) (piece_of (get_or laid i d))
 
--- bytes that are written from one place to another of those from a start on
+-- the bytes of a range are written into a buffer that begins at an offset
 module _ (x : Laid) (start from to : ℕ) (old piece : List ℕ) (low : start ≤ from) (some : from < to) (begin : x.start ≤ from) (high : to ≤ end_of x) (fits : to ≤ start + length old)
     (piece_is : piece ≡ take (to - x.start - (from - x.start)) (drop (from - x.start) x.bytes.now)) where
   piece_len : length piece ≡ to - from
@@ -33,7 +33,7 @@ module _ (x : Laid) (start from to : ℕ) (old piece : List ℕ) (low : start �
   over new is from_is to_is i l =
       grind (arith, piece_len, length-take, drop-drop, length-append, length-drop, refill-same_length, misses, get_or_append_left, get_or-take, get_or-append_right, covers, byte_at, get_or-drop)
 
--- what lies beside changes nothing
+-- a piece outside the range changes nothing
 pub beside : (x : Laid) (start : ℕ) (old : List ℕ) → min (end_of x) (start + length old) ≤ max x.start start → (i : ℕ) → i < length old
     → get_or old i 0 ≡ unwrap_or (item_at 0 (start + i) (piece_of x)) (get_or old i 0)
 beside x start old none i l = grind (arith, misses)

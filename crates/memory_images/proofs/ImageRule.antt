@@ -17,11 +17,11 @@ use Rattle.memory_images.specs.Layout.{AreLaid, laid_piece}
 use Rattle.memory_images.specs.Views.{image_memory}
 use Rattle.memory_images.proofs.Lists.{all_mapped}
 
--- bytes are laid exactly where segments are
+-- there are pieces exactly where there are segments
 pub some_laid : (laid : List Laid) (ss : List ActiveSegment) → map piece_of laid ≡ map laid_piece ss → 0 < length laid → ss ≢ []
 some_laid laid ss same some none = grind (arith, length-map)
 
--- placed segments end at numbers of 64 bits
+-- placed segments end at 64-bit numbers
 abbrev Fits : Piece ℕ → Type 0
 Fits p = p.offset + length p.items < 2 ^ 64
 

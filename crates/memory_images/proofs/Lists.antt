@@ -1,4 +1,4 @@
--- What stands at a place of a list.
+-- The item at a position of a list.
 use Rattle.std.proofs.Common.{◌≡◌, ℕ, zero, suc, ◌<◌, List, [], ◌∷◌, length, map, get_or, All, AllPairs, Option, Some, None, refl, subst, arith}
 use Rattle.std.proofs.lemmas.List.{length-map, get_or-map}
 use Rattle.std.specs.Prelude.{slice_get}

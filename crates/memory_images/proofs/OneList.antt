@@ -1,4 +1,4 @@
--- The ranges that are written by segments are one list.
+-- The ranges that segments write are uniquely determined.
 use Rattle.std.proofs.Common.{◌≡◌, ℕ, suc, ◌<◌, List, [], ◌∷◌, All, AllPairs, Some, None, refl, sym, ◌∙◌, arith}
 use Rattle.std.proofs.lemmas.List.Elements.{All-head, All-tail}
 use Rattle.memory_images.specs.declared.written.Written.{Written}
@@ -18,7 +18,7 @@ ranges_behind w ws h = record { some = All-tail (λ (v : Written). v.start < v.e
 first_some : (w : Written) (ws : List Written) → AreRanges (w ∷ ws) → w.start < w.end
 first_some w ws h = All-head (λ (v : Written). v.start < v.end) w ws h.some
 
--- no range after the first holds a place below its end
+-- no range after the first contains an offset below the first one's end
 none_below : (place : ℕ) (ws : List Written) → All (λ (w : Written). place < w.start) ws → segment_at ws place ≡ None
 none_below place [] all = refl
 none_below place (w ∷ ws) all = grind (arith, within_low, All-head, none_below place ws (All-tail (λ (v : Written). place < v.start) w ws all))
@@ -26,7 +26,7 @@ none_below place (w ∷ ws) all = grind (arith, within_low, All-head, none_below
 none_behind : (w : Written) (ws : List Written) (place : ℕ) → AreRanges (w ∷ ws) → place < w.end → segment_at ws place ≡ None
 none_behind w ws place h lt = none_below place ws (λ k d l. let b = (h.ordered 0 (suc k) d (omega arith) (omega arith)).apart in omega (arith, b))
 
--- the segment of the first range stands at its start
+-- the segment of the first range is the one at its start
 first_at : (w : Written) (ws : List Written) → AreRanges (w ∷ ws) → segment_at (w ∷ ws) w.start ≡ Some w.segment
 first_at w ws h = rw (within_yes w.start w.end w.start (omega arith) (first_some w ws h)) refl
 
@@ -45,7 +45,7 @@ module _ (x y : Written) (xs ys : List Written) (hx : AreRanges (x ∷ xs)) (hy 
       let none : segment_at (y ∷ ys) x.start ≡ None = rw (within_low y.start y.end x.start lt) (none_behind y ys x.start hy (omega (arith, l, lt))) in
       none_some (segment_at (y ∷ ys) x.start) x.segment none (sym (same x.start) ∙ first_at x xs hx)
 
-  -- nor, where they begin together and have one segment, does it end before the other
+  -- nor does it end before the other, where they begin together and have the same segment
   not_shorter : x.start ≡ y.start → x.segment ≡ y.segment → x.end < y.end → ⊥
   not_shorter start segment lt =
       let l = first_some x xs hx in
@@ -57,12 +57,12 @@ module _ (x y : Written) (xs ys : List Written) (hx : AreRanges (x ∷ xs)) (hy 
       let f = r.from in
       b.differ (omega (arith, a, f)) (segment ∙ sym r.owner)
 
--- the ranges after a first one that both lists share
+-- the ranges after a first one that both lists have
 same_behind : (w : Written) (xs ys : List Written) → AreRanges (w ∷ xs) → AreRanges (w ∷ ys)
     → ((place : ℕ) → segment_at (w ∷ xs) place ≡ segment_at (w ∷ ys) place) → (place : ℕ) → segment_at xs place ≡ segment_at ys place
 same_behind w xs ys hx hy same place = grind (arith, none_behind w xs place hx, none_behind w ys place hy, within_high, same place)
 
--- ranges that give each place the same segment are the same
+-- lists of ranges that give each offset the same segment are equal
 one_list : (xs ys : List Written) → AreRanges xs → AreRanges ys → ((place : ℕ) → segment_at xs place ≡ segment_at ys place) → xs ≡ ys
 one_list [] [] hx hy same = refl
 one_list [] (y ∷ ys) hx hy same = none_some (segment_at (y ∷ ys) y.start) y.segment (sym (same y.start)) (first_at y ys hy)

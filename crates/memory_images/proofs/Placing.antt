@@ -1,4 +1,4 @@
--- Where a segment is placed.
+-- The offset of a segment in its memory.
 use Rattle.std.proofs.Common.{◌≡◌, ℕ, ◌+◌, ◌-◌, ◌^◌, ◌<◌, ◌≤◌, List, length, map, Some, sym, ◌∙◌, ap, arith}
 use Rattle.std.specs.Prelude.{slice_get}
 use Rattle.std.specs.Option.{option_map}
@@ -10,7 +10,7 @@ use Rattle.replay_spec.specs.Images.{size_of, index_of, index_of_constant, IsPla
 use Rattle.replay_spec.proofs.Placed.{start-placed}
 use Rattle.memory_images.specs.Views.{image_memory}
 
--- a segment on memory number n of the defined ones, at a place of its index type
+-- a segment in defined memory number n, at an offset of its index type
 module _ (imports : ℕ) (defined : List Memory) (s : ActiveSegment) (n : ℕ) (memory : Memory) (v : Value) (place : ℕ) (number : n ≡ s.memory - imports)
     (found : slice_get defined n ≡ Some memory) (is : const_value s.offset ≡ Some v) (index : index_of (image_memory memory).wide v ≡ Some place) where
   at : slice_get (map image_memory defined) (s.memory - imports) ≡ Some (image_memory memory)
@@ -30,6 +30,6 @@ module _ (imports : ℕ) (defined : List Memory) (s : ActiveSegment) (n : ℕ) (
       } in
       (p, start-placed imports (map image_memory defined) s p)
 
-  -- a segment that ends past its memory is not placed
+  -- a segment that ends past its memory has no placement
   pub past_end : size_of (image_memory memory) < place + length s.bytes → IsPlaced imports (map image_memory defined) s → ⊥
   past_end past p = grind (arith, at)

@@ -1,4 +1,4 @@
--- The segment of a range, by the range's place in the list.
+-- The segment of a range, by the range's position in the list.
 use Rattle.std.proofs.Common.{◌≡◌, ℕ, zero, suc, ◌<◌, ◌≤◌, Bool, true, false, List, [], ◌∷◌, AllPairs, Some, refl, arith}
 use Rattle.std.specs.Prelude.{slice_get}
 use Rattle.memory_images.specs.declared.written.Written.{Written}
@@ -9,14 +9,14 @@ use Rattle.memory_images.proofs.Lists.{two_some, pair_at}
 pub pairs_behind : {X : Type 0} (R : X → X → Type 0) (x : X) (xs : List X) → AllPairs R (x ∷ xs) → AllPairs R xs
 pairs_behind R x xs all = λ i j d lt k. all (suc i) (suc j) d (omega arith) (omega arith)
 
--- a place of a range has the range's segment
+-- an offset in a range has the range's segment
 pub segment_at-range : (ws : List Written) (k : ℕ) (w : Written) (place : ℕ) → AllPairs IsBefore ws → slice_get ws k ≡ Some w → w.start ≤ place → place < w.end → segment_at ws place ≡ Some w.segment
 segment_at-range [] k w place all g h l = absurd cc
 segment_at-range (v ∷ vs) zero w place all g h l = let same : v ≡ w = two_some (Some v) v w refl g in rw (same, within_yes w.start w.end place h l) refl
 segment_at-range (v ∷ vs) (suc k) w place all g h l =
     grind (arith, pair_at IsBefore (v ∷ vs) 0 (suc k) v w all refl g (omega arith), pairs_behind IsBefore v vs all, within_high, (segment_at-range vs k w place (pairs_behind IsBefore v vs all) g h l))
 
--- the range that holds a place
+-- the range that contains an offset
 pub record RangeAt (ws : List Written) (place segment : ℕ) : Type 0 where
   pub index : ℕ
   pub range : Written

@@ -1,4 +1,4 @@
--- The images of laid bytes are those of the segments.
+-- The images of the pieces are those of the segments.
 use Rattle.std.proofs.Common.{◌≡◌, ℕ, true, false, List, [], ◌∷◌, length, map, Option, None, refl, sym, ◌∙◌, ap, subst, arith}
 use Rattle.std.specs.Prelude.{unwrap_or, nat_lt, ◌==◌, ◌&&◌}
 use Rattle.std.specs.Global.{Vec}
@@ -14,7 +14,7 @@ use Rattle.memory_images.specs.Contents.{contents_at}
 use Rattle.memory_images.specs.Images.{AreListed}
 use Rattle.memory_images.specs.Layout.{AreLaid, laid_piece}
 
--- segments leave on a memory what those on it that are not empty lay
+-- the segments leave in a memory what its segments that are not empty write
 moved : (active : List ActiveSegment) (m place d : ℕ) → last_item m place d (map (piece_of offset_of) active) ≡ last_item 0 place d (map laid_piece (bytes_on m active))
 moved [] m place d = refl
 moved (s ∷ rest) m place d = ⊎_elim

@@ -24,7 +24,7 @@ listed_more R n ys y h so_far = record {
 listed_behind : {A : Type 0} (R : ℕ → A → Type 0) (n : ℕ) (x : A) (xs : List A) → AreListed R (suc n) (x ∷ xs) → AreListed (λ m. R (suc m)) n xs
 listed_behind R n x xs h = record { count = (let c = h.count in omega arith); each = λ m answer at. h.each (suc m) answer at }
 
--- what holds of the contents of a memory, by its number
+-- a fact of the contents of a memory, by its number
 pub span_from : (page : ℕ) (all : List (Vec Laid)) (m : ℕ) (laid : Vec Laid) (span : Option Span) → slice_get all m ≡ Some laid → SpanOf page (contents_at all m) span → SpanOf page (contents_of laid.items) span
 span_from page all m laid span at h = subst (λ o. SpanOf page (λ place. last_item 0 place 0 (pieces_in o)) span) at h
 
@@ -34,7 +34,7 @@ image_at page all m laid image at h = subst (λ o. ImageOf page (λ place. last_
 size_image : (page : ℕ) (c : ℕ → ℕ) (s : Span) (i : MemoryImage) → IsSpan page c s → IsImage page c i → s.size ≡ min (length i.bytes) (2 ^ 64 - 1)
 size_image page c s i span image = grind (arith, same-first, same-last)
 
--- spans and images of the same contents pass 4294967295 bytes together
+-- spans and images of the same contents are together above 4294967295 bytes in the same cases
 pub same_sums : (page : ℕ) (contents : ℕ → ℕ → ℕ) (n : ℕ) (spans : List (Option Span)) (images : List (Option MemoryImage))
     → AreListed (λ m. SpanOf page (contents m)) n spans → AreListed (λ m. ImageOf page (contents m)) n images
     → min (sum_by span_size spans) (2 ^ 32) ≡ min (sum_by length (image_bytes images)) (2 ^ 32)

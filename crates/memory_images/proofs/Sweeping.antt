@@ -1,4 +1,4 @@
--- Ranges that are found from low places to high ones.
+-- Ranges that are found from low offsets to high ones.
 use Rattle.std.proofs.Common.{◌≡◌, ℕ, zero, suc, ◌+◌, ◌-◌, ◌^◌, ◌<◌, ◌≤◌, false, List, [], ◌∷◌, ◌++◌, length, take, get_or, min, All, AllPairs, Option, Some, None, refl, sym, ◌∙◌, ap, subst, arith}
 use Rattle.std.specs.Prelude.{Contains, IsSome, IfSome, slice_get, slice_set}
 use Rattle.std.specs.BinaryHeap.{IsUpperBound}
@@ -18,11 +18,11 @@ use Rattle.std.proofs.lemmas.Option.{slice_get-get_or}
 use Rattle.memory_images.proofs.Lists.{two_some, pair_at}
 use Rattle.memory_images.proofs.Covering.{within_yes, within_low, within_high}
 
--- what is read at a place of a list is what stands there
+-- an item that is read at a position is the item of the list there
 pub read_at : {X : Type 0} (xs : List X) (n : ℕ) (x y : X) → n < length xs → x ≡ get_or xs n x → slice_get xs n ≡ Some y → x ≡ y
 read_at xs n x y l is at = two_some (slice_get xs n) x y (slice_get-get_or xs n x l ∙ ap Some (sym is)) at
 
--- ---- the last pair that covers a place
+-- ---- the last pair that covers an offset
 
 not_within : (start end place : ℕ) → (start ≤ place → place < end → ⊥) → is_within start end place ≡ false
 not_within start end place never = grind (arith, nat_tests)
@@ -50,7 +50,7 @@ none_above n place [] l all = refl
 none_above n place (w ∷ ws) l all = grind (arith, within_high, all 0 w (omega arith), none_above n place ws l (All-tail (λ (v : Written). v.end ≤ n) w ws all))
 
 module _ (segments : List (ℕ × ℕ)) (start end : ℕ) (some : start < end) where
-  -- the last range reaches from a start or below it up to an end
+  -- the last range reaches from a start, or from below it, up to an end
   reaches : (init : List Written) (w : Written) → w.start ≤ start → w.end ≡ end → ((place : ℕ) → start ≤ place → place < end → last_cover segments place ≡ Some w.segment)
       → ((place : ℕ) → place < start → segment_at (init ++ w ∷ []) place ≡ last_cover segments place) → All (λ v. v.end ≤ start) init → All (λ v. v.start < v.end) init
       → AllPairs IsBefore (init ++ w ∷ []) → AreWrittenBelow segments end (init ++ w ∷ [])
@@ -63,7 +63,7 @@ module _ (segments : List (ℕ × ℕ)) (start end : ℕ) (some : start < end) w
 
   module _ (ranges : List Written) (w : Written) (upto : w.end ≡ end) (owner : (place : ℕ) → start ≤ place → place < end → last_cover segments place ≡ Some w.segment)
       (a : AreWrittenBelow segments start ranges) where
-    -- one more range, where the last is not the same segment's and ends before
+    -- one more range, where the last range belongs to another segment or ends earlier
     pub added : w.start ≡ start → ((last : Written) → slice_get ranges (length ranges - 1) ≡ Some last → last.end ≡ start → last.segment ≡ w.segment → ⊥) → AreWrittenBelow segments end (ranges ++ w ∷ [])
     added from other = reaches ranges w (omega arith) upto owner low a.below a.some (all_pairs_push IsBefore ranges w a.ordered before) where
       low : (place : ℕ) → place < start → segment_at (ranges ++ w ∷ []) place ≡ last_cover segments place
@@ -72,7 +72,7 @@ module _ (segments : List (ℕ × ℕ)) (start end : ℕ) (some : start < end) w
       before : (k : ℕ) (d : Written) → k < length ranges → IsBefore (get_or ranges k d) w
       before k d l = grind (arith, slice_get-get_or)
 
-    -- the last range, which ends at the start and is the same segment's, made longer
+    -- the last range, which ends at the start and belongs to the same segment, is extended
     pub lengthened : (last : Written) (n : ℕ) → n + 1 ≡ length ranges → last ≡ get_or ranges n last → last.end ≡ start → last.segment ≡ w.segment → w.start ≡ last.start
         → AreWrittenBelow segments end (slice_set ranges n w)
     lengthened last n count is_last touch same from =
@@ -120,7 +120,7 @@ of_all P xs x all c = subst P c.2 (all c.0 x c.1)
 
 module _ (segments : List (ℕ × ℕ)) (from at limit : ℕ) (old active : List ℕ) (begun : AreBegun segments from active) (acts : AreActive segments from limit old) (keeps : Keeps segments at old active)
     (low : from ≤ at) where
-  -- the last of the active segments has what it covers
+  -- the last of the active segments has the offsets that it covers
   pub owns : (top : ℕ) → Contains active top → IsUpperBound nat_cmp top active → (place : ℕ) → at ≤ place → place < min limit (end_of segments top) → last_cover segments place ≡ Some top
   owns top is_top greatest place l m = grind (arith, of_all, last_is, le_from_greatest)
 
@@ -133,7 +133,7 @@ module _ (segments : List (ℕ × ℕ)) (from at limit : ℕ) (old active : List
     ordered = a.ordered;
   }
 
--- what stays active once the first, which has ended, is taken out
+-- the segments that remain active once the first, which has ended, is removed
 module _ (segments : List (ℕ × ℕ)) (from at next : ℕ) (old active rest : List ℕ) (top : ℕ) (some : 0 < length active) (is_top : top ≡ get_or active 0 top) (begun : AreBegun segments from active)
     (keeps : Keeps segments at old active) (up : at ≤ next) (ended : end_of segments top ≤ next) where
   pub popped : (o : Option ℕ) → IsSome o → IfSome o (λ x. x ≡ get_or active 0 x) → IfSome o (λ x. IsPermutation active (x ∷ rest)) → AreBegun segments from rest × Keeps segments next old rest
@@ -147,12 +147,12 @@ module _ (segments : List (ℕ × ℕ)) (from at next : ℕ) (old active rest : 
 
 -- ---- from start to start
 
--- those of the first segments that reach past a place are active
+-- those of the first segments that reach past an offset are active
 abbrev pub AreKept : List (ℕ × ℕ) → List (ℕ × ℕ) → ℕ → ℕ → List ℕ → Type 0
 AreKept segments starts i at active = (j : ℕ) → j < i → at < end_of segments (get_or starts j (0, 0)).1 → Contains active (get_or starts j (0, 0)).1
 
 module _ (segments starts : List (ℕ × ℕ)) (are : AreStarts segments starts) where
-  -- where the others start at a limit or above
+  -- where the other segments start at a limit or above
   pub acts : (i at limit : ℕ) (active : List ℕ) → AreKept segments starts i at active → ((j : ℕ) → i ≤ j → j < length starts → limit ≤ (get_or starts j (0, 0)).0) → AreActive segments at limit active
   acts i at limit active kept late k l begins past =
       let c = are.each k l in
@@ -202,6 +202,6 @@ module _ (segments starts : List (ℕ × ℕ)) (i : ℕ) (within : i < length se
   pub numbers_more : All (IsNumber segments) starts → All (IsNumber segments) (starts ++ (start_of segments i, i) ∷ [])
   numbers_more all = All-push (IsNumber segments) starts (start_of segments i, i) all (within, refl)
 
--- ranges below the greatest number of 64 bits are all
+-- ranges below the greatest 64-bit number are all ranges
 pub all_written : (segments : List (ℕ × ℕ)) (ranges : List Written) → All (λ pair. pair.0 + pair.1 < 2 ^ 64) segments → AreWrittenBelow segments (2 ^ 64 - 1) ranges → AreWritten segments ranges
 all_written segments ranges fits a = grind (arith, none_above, none_is)

@@ -1,4 +1,4 @@
--- What stands at each place of a memory once bytes were laid into it.
+-- The byte at each offset of a memory after pieces of bytes were written into it.
 use Rattle.std.specs.Prelude.{◌≡◌, ℕ, ◌+◌, ◌-◌, ◌<◌, ◌≤◌, List, [], map, length, slice_get, slice_index, Option, Some, None}
 use Rattle.std.specs.Global.{Vec}
 use Rattle.memory_images.specs.declared.laid.Laid.{Laid}
@@ -8,16 +8,16 @@ use Rattle.replay_spec.specs.Phases.{Piece, last_item}
 abbrev pub piece_of : Laid → Piece ℕ
 piece_of x = record { object = 0; offset = x.start; items = x.bytes.now }
 
--- the byte at a place of a memory of zeros into which bytes were laid in turn
+-- the byte at an offset of a memory of zeros into which the pieces were written in order
 abbrev pub contents_of : List Laid → ℕ → ℕ
 contents_of laid place = last_item 0 place 0 (map piece_of laid)
 
--- what is laid into a memory, if it is one of those that are listed
+-- the pieces of a memory, if it is in the list
 abbrev pub pieces_in : Option (Vec Laid) → List (Piece ℕ)
 pieces_in None = []
 pieces_in (Some laid) = map piece_of laid.items
 
--- the byte at a place of memory number m
+-- the byte at an offset of memory number m
 abbrev pub contents_at : List (Vec Laid) → ℕ → ℕ → ℕ
 contents_at all m place = last_item 0 place 0 (pieces_in (slice_get all m))
 
@@ -27,14 +27,14 @@ end_of x = x.start + length x.bytes.now
 abbrev pub pair_of : Laid → ℕ × ℕ
 pair_of x = (x.start, length x.bytes.now)
 
--- the byte of laid bytes at a place
+-- the byte of a piece at an offset
 abbrev pub byte_in : Laid → ℕ → ℕ
 byte_in x place = slice_index x.bytes.now (place - x.start)
 
 abbrev pub Within : Laid → ℕ → Type 0
 Within x place = (x.start ≤ place) × (place < end_of x)
 
--- a range lies in the laid bytes of its number, which stand there at last
+-- a range is in the piece of its number, whose bytes are the final contents there
 pub record IsOwned (laid : List Laid) (range : Written) : Type 0 where
   pub part : Laid
   pub is_part : slice_get laid range.segment ≡ Some part

@@ -4,7 +4,7 @@ use Rattle.replay_spec.specs.Images.{IsFirst, IsLast}
 use Rattle.memory_images.specs.declared.span.Ends.{Ends}
 use Rattle.memory_images.specs.declared.span.Span.{Span}
 
--- the first and the last of some places whose byte is not zero
+-- the first and the last of some offsets whose byte is not zero
 pub record AreEnds (contents : ℕ → ℕ) (Within : ℕ → Type 0) (ends : Ends) : Type 0 where
   pub first : contents ends.first ≢ 0
   pub last : contents ends.last ≢ 0
@@ -15,18 +15,19 @@ abbrev pub EndsOf : (ℕ → ℕ) → (ℕ → Type 0) → Option Ends → Type 
 EndsOf contents Within None = (place : ℕ) → Within place → contents place ≡ 0
 EndsOf contents Within (Some ends) = AreEnds contents Within ends
 
--- places that lie round every byte that is not zero
+-- offsets that enclose every byte that is not zero
 abbrev pub Bounds : (ℕ → ℕ) → Option Ends → Type 0
 Bounds contents None = (place : ℕ) → contents place ≡ 0
 Bounds contents (Some ends) = (place : ℕ) → contents place ≢ 0 → (ends.first ≤ place) × (place ≤ ends.last)
 
--- the ends of the places of both
+-- the ends that enclose both
 abbrev pub joined : Option Ends → Option Ends → Option Ends
 joined None b = b
 joined (Some a) None = Some a
 joined (Some a) (Some b) = Some (record { first = min a.first b.first; last = max a.last b.last })
 
--- whole pages from one place's to the end of another's; a size past 64 bits is the greatest number
+-- whole pages, from the page of the first offset to the end of the last one's; a size past 64 bits
+-- is the greatest number
 pub record ArePages (page : ℕ) (ends : Ends) (span : Span) : Type 0 where
   pub full : ℕ
   pub start : span.start ≡ ends.first / page * page
@@ -45,6 +46,6 @@ abbrev pub SpanOf : ℕ → (ℕ → ℕ) → Option Span → Type 0
 SpanOf page contents None = (place : ℕ) → contents place ≡ 0
 SpanOf page contents (Some span) = IsSpan page contents span
 
--- bytes are the contents from a place on
+-- bytes are the contents from an offset on
 abbrev pub Filled : (ℕ → ℕ) → ℕ → List ℕ → Type 0
 Filled contents start bytes = (i : ℕ) → i < length bytes → slice_index bytes i ≡ contents (start + i)

@@ -15,7 +15,7 @@ abbrev pub span_size : Option Span → ℕ
 span_size None = 0
 span_size (Some span) = span.size
 
--- so many answers, each of which is right for its number
+-- n answers, each of which is right for its number
 pub record AreListed {A : Type 0} (R : ℕ → A → Type 0) (n : ℕ) (answers : List A) : Type 0 where
   pub count : length answers ≡ n
   pub each : (m : ℕ) (answer : A) → slice_get answers m ≡ Some answer → R m answer

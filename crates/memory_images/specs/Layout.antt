@@ -1,4 +1,4 @@
--- The bytes that segments lay into each memory.
+-- The bytes that segments write into each memory.
 use Rattle.std.specs.Prelude.{◌≡◌, ◌≢◌, ◌+◌, ◌++◌, ℕ, List, [], ◌∷◌, map, length, nat_lt, if◌then◌else◌, slice_get, Some, All}
 use Rattle.std.specs.Global.{Vec}
 use Rattle.replay_spec.specs.Phases.{Piece}
@@ -7,11 +7,11 @@ use Rattle.replay_spec.specs.Images.{ImageOptions, ImageMemory, IsPlaced, bytes_
 use Rattle.memory_images.specs.declared.laid.Laid.{Laid}
 use Rattle.memory_images.specs.Contents.{pieces_in}
 
--- what a segment lays into its memory
+-- what a segment writes into its memory
 abbrev pub laid_piece : ActiveSegment → Piece ℕ
 laid_piece s = record { object = 0; offset = start_of s; items = s.bytes }
 
--- each memory, imported ones first, has the segments on it that are not empty, in order
+-- each memory, imported ones first, has its segments that are not empty, in order
 pub record AreLaid (imports : ℕ) (memories : List ImageMemory) (active : List ActiveSegment) (all : List (Vec Laid)) : Type 0 where
   pub placed : All (IsPlaced imports memories) active
   pub count : length all ≡ imports + length memories
@@ -27,7 +27,7 @@ pub record Adds (old new : List (Vec Laid)) (m : ℕ) (x : Laid) : Type 0 where
   pub here : (v w : Vec Laid) → slice_get old m ≡ Some v → slice_get new m ≡ Some w → w.items ≡ v.items ++ unless_empty x
   pub there : (k : ℕ) → k ≢ m → slice_get new k ≡ slice_get old k
 
--- the segments on each defined memory with bytes may be its image
+-- the segments in each defined memory with bytes may be its image
 abbrev pub MayBeImages : ImageOptions → ℕ → List ImageMemory → List ActiveSegment → Type 0
 MayBeImages options imports memories active = (m : ℕ) (memory : ImageMemory) → slice_get memories m ≡ Some memory
     → bytes_on (imports + m) active ≢ [] → MayBeImage options memory (bytes_on (imports + m) active)

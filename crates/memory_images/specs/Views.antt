@@ -1,4 +1,4 @@
--- Memories, segments and settings of the code, as the plain values of the definitions.
+-- The memories, segments and settings of the code, as the plain values of the definitions.
 use Rattle.std.specs.Prelude.{Bool, true, false}
 use Rattle.wasm_index.specs.Index.{number_of}
 use Rattle.wasm_types.specs.declared.limits.IndexType.{IndexType}

@@ -23,7 +23,7 @@ pub(crate) fn filled(alloc: Global, laid: &[Laid<'_>], span: Span) -> Result<Vec
     Ok(bytes)
 }
 
-/// Writes what of laid bytes lies within those from a place on.
+/// Writes the part of a piece that is in the buffer, which begins at `start`.
 fn lay(bytes: &mut Vec<u8>, x: &Laid<'_>, start: u64)
     requires { end_of x.now < 2 ^ 64 }
     ensures len { length bytes.new.items ≡ length bytes.old.items }

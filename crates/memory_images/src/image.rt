@@ -1,4 +1,4 @@
-//! The images of all memories, which are measured before one is made.
+//! The images of all memories. They are measured before one is made.
 
 ghost use Rattle.std.specs.Prelude.{◌≡◌, ℕ, List, Option, ◌+◌, ◌-◌, ◌<◌, ◌≤◌, ◌^◌, All, IfOk, length, sum_by, min, Err};
 ghost use Rattle.std.specs.Option.{option_map};
@@ -14,7 +14,7 @@ use crate::span::{Span, span_of};
 use entity_map::OutOfMemory;
 use std::alloc::Global;
 
-/// The bytes of a memory from the place `start` on.
+/// The bytes of a memory from the offset `start` on.
 #[derive(Drop)]
 pub struct Image {
     pub start: u64,
@@ -68,7 +68,7 @@ fn spans_of(
     Ok(spans)
 }
 
-/// All sizes and some bytes beside them, added up.
+/// The sum of all sizes and `beside`, at most `u64::MAX`.
 fn total(beside: u64, spans: &[Option<Span>]) -> u64
     ensures { result ≡ min (beside + sum_by span_size spans.now) (2 ^ 64 - 1) }
 {
@@ -97,7 +97,8 @@ fn make_all(
     Ok(images)
 }
 
-/// The image of each memory, unless the images and `beside` bytes pass 4294967295 bytes together.
+/// The image of each memory, unless the images and `beside` more bytes pass 4294967295 bytes
+/// together.
 pub(crate) fn images_of(
     alloc: Global,
     memories: &[Vec<Laid<'_>>],

@@ -37,7 +37,7 @@ fn empty_lists<'d>(alloc: Global, count: usize) -> Result<Vec<Vec<Laid<'d>>>, Ou
     Ok(all)
 }
 
-/// The bytes that segments lay into each memory, or `None` where one has no place.
+/// The bytes that segments write into each memory, or `None` where a segment has no placement.
 pub(crate) fn lay_out<'d>(
     alloc: Global,
     imported: usize,

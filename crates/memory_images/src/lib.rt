@@ -2,8 +2,8 @@
 //! bytes of these.
 //!
 //! `plan_images` returns images exactly where the image rule of `replay_spec` holds. They have the
-//! bytes that the segments leave. `TooLarge` comes only where the images, and the bytes beside
-//! them, pass 32 bits.
+//! bytes that the segments leave. `TooLarge` is returned only where the images and the other bytes
+//! pass 32 bits.
 //!
 //! ```
 //! let settings = ImageSettings { enabled: true, page_size: 4096, max_image: 1_048_576 };
@@ -12,8 +12,8 @@
 //! let ranges = written_ranges(alloc, &[(16, 3), (17, 1)])?;
 //! ```
 //!
-//! Overlapping segments are swept in one pass, with a heap of those that are active. Images have at
-//! most twice the module's bytes, and `max_image` bytes and two pages for each defined memory.
+//! Overlapping segments are swept in one pass, with a heap of the active ones. Images have at most
+//! twice the module's bytes, and `max_image` bytes and two pages for each defined memory.
 //!
 //! Read on: `rule`, `written`, `image`; `replay_spec/specs/Images.antt` has the rule.
 #![tactic(auto)]

@@ -1,4 +1,4 @@
-//! Where an active segment is placed.
+//! The offset at which an active segment is placed.
 
 ghost use Rattle.std.specs.Prelude.{◌≡◌, ◌≤◌, ◌^◌, map, All, IfSome, IfNone};
 ghost use Rattle.wasm_convert.specs.Constants.{plain_value_of};
@@ -10,7 +10,7 @@ use wasm_convert::GlobalConstValue;
 use wasm_module::MemoryInitializer;
 use wasm_types::{IndexType, Memory};
 
-// A constant of an index type, read unsigned.
+// A constant of an index type, read as unsigned.
 fn index(idx_type: IndexType, constant: GlobalConstValue) -> Option<u64>
     ensures { result ≡ index_of (is_wide idx_type) (plain_value_of constant) }
 {
@@ -21,7 +21,7 @@ fn index(idx_type: IndexType, constant: GlobalConstValue) -> Option<u64>
     }
 }
 
-// The size of a memory's pages, in bytes.
+// The page size of a memory, in bytes.
 pub(crate) fn page_size(memory: Memory) -> u64
     requires { memory.page_size_log2 ≤ 16 }
     ensures { result ≡ 2 ^ memory.page_size_log2 }
@@ -29,7 +29,7 @@ pub(crate) fn page_size(memory: Memory) -> u64
     1 << memory.page_size_log2
 }
 
-// The bytes of a memory's minimum size, where 64 bits hold their number.
+// The minimum size of a memory in bytes, where it fits 64 bits.
 fn minimum_bytes(memory: Memory) -> Option<u64>
     requires { memory.page_size_log2 ≤ 16 }
     ensures some { IfSome result (λ n. n ≡ size_of (image_memory memory)) }
@@ -38,8 +38,8 @@ fn minimum_bytes(memory: Memory) -> Option<u64>
     memory.limits.min.checked_mul(page_size(memory))
 }
 
-/// The place of a segment that is on a defined memory, has a constant offset of its index type, and
-/// ends within its minimum size.
+/// The placement of a segment that is in a defined memory, has a constant offset of its index type,
+/// and ends within the memory's minimum size.
 pub(crate) fn place_of(
     imported: usize,
     defined: &[Memory],

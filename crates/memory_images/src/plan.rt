@@ -1,4 +1,4 @@
-//! Whether active segments become images, and which.
+//! The decision whether active segments become images, and the images.
 
 ghost use Rattle.std.specs.Prelude.{◌≡◌, ◌⊎◌, ◌+◌, ◌^◌, ◌≤◌, ◌<◌, ℕ, List, Option, All, IfOk, IfSome, IfNone, Ok, Err, None, false, length, map, drop, sum_by};
 ghost use Rattle.std.specs.Int.{IsPowerOfTwo};
@@ -15,12 +15,12 @@ use wasm_module::MemoryInitializer;
 use wasm_types::Memory;
 
 /// The images of all memories, imported ones first, where all active segments become images, and
-/// `None` where they do not. `beside` is the number of bytes that stand beside them. Where images
-/// are off nothing is allocated.
+/// `None` where they do not. `beside` is the number of other bytes that count toward the size.
+/// Where images are off nothing is allocated.
 ///
 /// # Errors
-/// `TooLarge` where the images and the bytes beside them pass 4294967295 bytes together, before an
-/// image is made.
+/// `TooLarge` where the images and the other bytes pass 4294967295 bytes together, before an image
+/// is made.
 pub fn plan_images(
     alloc: Global,
     settings: ImageSettings,
@@ -38,7 +38,7 @@ pub fn plan_images(
     ensures holds { IfOk result (λ o. IfSome o (λ _. IsStatic (options_of settings) imported (map image_memory (drop imported memories.now)) (map active_segment_of segments.now))) }
     ensures images { IfOk result (λ o. IfSome o (λ images.
         AreImages settings.page_size (length memories.now) (map active_segment_of segments.now) (view_images images.items))) }
-    // Too large exactly where the images and the bytes beside them pass 4294967295 bytes.
+    // Too large exactly where the images and the other bytes pass 4294967295 bytes.
     ensures fits { IfOk result (λ o. IfSome o (λ images. beside + sum_by length (image_bytes (view_images images.items)) < 2 ^ 32)) }
     ensures too_large { result ≡ Err ImageError.TooLarge → (images : List (Option MemoryImage))
         → AreImages settings.page_size (length memories.now) (map active_segment_of segments.now) images

@@ -1,4 +1,4 @@
-//! Whether all active segments become images.
+//! The decision whether all active segments become images.
 
 ghost use Rattle.std.specs.Prelude.{◌≡◌, ◌≢◌, ◌⊎◌, ◌+◌, ◌*◌, ◌^◌, ◌≤◌, ◌<◌, ◌↔◌, ℕ, List, [], All, IsTrue, IfOk, IfSome, IfNone, length, map};
 ghost use Rattle.replay_spec.specs.Data.{ActiveSegment};
@@ -16,7 +16,7 @@ use std::alloc::Global;
 use wasm_module::MemoryInitializer;
 use wasm_types::Memory;
 
-// Whether the bytes lie close together, or within `max_image`.
+// Whether the bytes are close together, or within `max_image`.
 fn is_dense(laid: &[Laid<'_>], max_image: u64) -> bool
     requires { All (λ x. end_of x < 2 ^ 64) laid.now }
     ensures { (ss : List ActiveSegment) → map piece_of laid.now ≡ map laid_piece ss → IsTrue result ↔ IsDense max_image ss }
@@ -71,7 +71,7 @@ fn may_be_images(
     true
 }
 
-/// The bytes that segments lay into each memory, where all of them become images.
+/// The bytes that segments write into each memory, where all of them become images.
 pub(crate) fn static_layout<'d>(
     alloc: Global,
     settings: ImageSettings,

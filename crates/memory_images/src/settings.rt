@@ -1,7 +1,7 @@
 //! The settings of images.
 
-/// Whether images are wanted, the size of their pages, and an extent below which an image is always
-/// made, in bytes.
+/// Whether images are wanted, their page size, and an extent below which an image is always made,
+/// in bytes.
 #[derive(Clone, Copy, Debug, PartialEq, Eq)]
 pub struct ImageSettings {
     pub enabled: bool,

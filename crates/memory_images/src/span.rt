@@ -1,4 +1,4 @@
-//! Where the bytes that are not zero stand.
+//! The span of the bytes that are not zero.
 
 ghost use Rattle.std.specs.Prelude.{◌≡◌, ◌≢◌, ℕ, ◌+◌, ◌^◌, ◌<◌, ◌≤◌, ⊤, length, map, slice_index, unwrap_or, All, IfOk, IfSome, IfNone, IsTrue};
 ghost use Rattle.replay_spec.specs.Phases.{item_at};
@@ -12,14 +12,15 @@ use crate::zeros::{without_first_zeros, without_last_zeros};
 use entity_map::OutOfMemory;
 use std::alloc::Global;
 
-/// Whole pages from `start` on, of `size` bytes, or of at least as many where that is the greatest number.
+/// Whole pages from `start` on, of `size` bytes, or of at least as many where that is the greatest
+/// number.
 #[derive(Clone, Copy, Debug, PartialEq, Eq)]
 pub struct Span {
     pub start: u64,
     pub size: u64,
 }
 
-/// The first and the last place whose byte is not zero.
+/// The first and the last offset whose byte is not zero.
 #[derive(Clone, Copy, Debug, PartialEq, Eq)]
 pub struct Ends {
     pub first: u64,
@@ -48,7 +49,7 @@ fn last_in(bytes: &[u8]) -> Option<usize>
         .rposition(|byte| *byte != 0)
 }
 
-/// What of laid bytes stands in a range.
+/// The part of a piece that is in a range.
 fn cut<'d>(laid: &[Laid<'d>], range: Written) -> Laid<'d>
     requires some { range.start < range.end }
     requires owned { IsOwned laid.now range }
@@ -89,7 +90,7 @@ fn join(a: Option<Ends>, b: Option<Ends>) -> Option<Ends>
     }
 }
 
-/// The ends of all that is laid, whether it stands at last or not.
+/// The ends of all pieces, whether their bytes are overwritten or not.
 fn outer_ends(laid: &[Laid<'_>]) -> Option<Ends>
     requires { All (λ x. end_of x < 2 ^ 64) laid.now }
     ensures { Bounds (contents_of laid.now) result }
@@ -125,7 +126,7 @@ fn byte_at(laid: &[Laid<'_>], place: u64) -> u8
     byte
 }
 
-/// Whether the ends of all that is laid stand at last.
+/// Whether the bytes at the ends of all pieces are in the final contents.
 fn stand(laid: &[Laid<'_>], ends: Option<Ends>) -> bool
     requires fits { All (λ x. end_of x < 2 ^ 64) laid.now }
     requires bounds { Bounds (contents_of laid.now) ends }
@@ -137,7 +138,7 @@ fn stand(laid: &[Laid<'_>], ends: Option<Ends>) -> bool
     }
 }
 
-/// The ends of what stands at last, by the ranges that laid bytes write.
+/// The ends of the final contents, by the ranges that the pieces write.
 fn inner_ends(laid: &[Laid<'_>], ranges: &[Written]) -> Option<Ends>
     requires fits { All (λ x. end_of x < 2 ^ 64) laid.now }
     requires written { AreWritten (map pair_of laid.now) ranges.now }
@@ -163,8 +164,8 @@ fn pairs_of(alloc: Global, laid: &[Laid<'_>]) -> Result<Vec<(u64, u64)>, OutOfMe
     Ok(pairs)
 }
 
-/// The first and the last place whose byte is not zero. Where the ends of all that is laid stand,
-/// no range is made.
+/// The first and the last offset whose byte is not zero. Where the ends of all pieces are in the
+/// final contents, no range is made.
 fn ends_of(alloc: Global, laid: &[Laid<'_>]) -> Result<Option<Ends>, OutOfMemory>
     requires { All (λ x. end_of x < 2 ^ 64) laid.now }
     ensures { IfOk result (EndsOf (contents_of laid.now) (λ _. ⊤)) }
@@ -178,7 +179,7 @@ fn ends_of(alloc: Global, laid: &[Laid<'_>]) -> Result<Option<Ends>, OutOfMemory
     Ok(inner_ends(laid, ranges.as_slice()))
 }
 
-/// From the page of the first byte that is not zero to the end of the page of the last.
+/// The pages from that of the first byte that is not zero to that of the last.
 pub(crate) fn span_of(
     alloc: Global,
     laid: &[Laid<'_>],

@@ -1,4 +1,4 @@
-//! Ranges of places, from low to high, as segments begin and end.
+//! Ranges of offsets, from low to high, as segments begin and end.
 
 ghost use Rattle.std.specs.Prelude.{◌≡◌, ◌+◌, ◌^◌, ◌<◌, ◌≤◌, All, OnOk};
 ghost use Rattle.std.specs.Ordering.{nat_cmp};
@@ -9,8 +9,8 @@ use crate::written::Written;
 use entity_map::OutOfMemory;
 use std::collections::BinaryHeap;
 
-/// Gives the places from `start` up to `end` to a segment, within the last range where that ends at
-/// `start` and is the same segment's.
+/// Gives the offsets from `start` up to `end` to a segment. Extends the last range where that ends
+/// at `start` and belongs to the same segment.
 fn extend(
     ranges: &mut Vec<Written>,
     start: u64,
@@ -35,8 +35,8 @@ fn extend(
     Ok(())
 }
 
-/// Goes from a place to a limit below which no more segments begin. Of the active segments that
-/// cover a place the last has it, and those that end are active no longer.
+/// Sweeps from an offset to a limit below which no more segments begin. An offset belongs to the
+/// last active segment that covers it; segments that end become inactive.
 pub(crate) fn advance(
     segments: &[(u64, u64)],
     active: &mut BinaryHeap<usize>,

@@ -1,4 +1,4 @@
-//! Ranges of places and the segment that each belongs to.
+//! Ranges of offsets, and the segment that each belongs to.
 
 ghost use Rattle.std.specs.Prelude.{◌≡◌, ◌+◌, ◌^◌, ◌<◌, All, IfOk};
 ghost use Rattle.memory_images.specs.Ranges.{AreWritten};
@@ -9,7 +9,7 @@ use entity_map::OutOfMemory;
 use std::alloc::Global;
 use std::collections::BinaryHeap;
 
-/// Places from `start` up to `end`, which belong to the segment of this number.
+/// The offsets from `start` up to `end`, which belong to the segment of this number.
 #[derive(Clone, Copy, Debug, PartialEq, Eq)]
 pub struct Written {
     pub start: u64,
@@ -17,7 +17,7 @@ pub struct Written {
     pub segment: usize,
 }
 
-/// The places that segments cover, in order, where each pair is a start and a length.
+/// The offsets that segments cover, in order, where each pair is a start and a length.
 pub fn written_ranges(alloc: Global, segments: &[(u64, u64)]) -> Result<Vec<Written>, OutOfMemory>
     requires { All (λ pair. pair.0 + pair.1 < 2 ^ 64) segments.now }
     ensures { IfOk result (λ v. AreWritten segments.now v.items) }

@@ -1,4 +1,4 @@
-//! Zeros at the ends of bytes, which are passed over eight at a time.
+//! Zeros at the ends of bytes, which are skipped eight at a time.
 
 ghost use Rattle.std.specs.Prelude.{◌≡◌, All, IsTrue, length};
 ghost use Rattle.memory_images.specs.Zeros.{AndZeros, ZerosAnd};
@@ -10,7 +10,7 @@ fn is_zero(word: &[u8; 8]) -> bool
     u64::from_le_bytes(*word) == 0
 }
 
-/// The bytes without the words of zeros that they begin with.
+/// The bytes without the zero words at their beginning.
 pub fn without_first_zeros(bytes: &[u8]) -> &[u8]
     ensures { ZerosAnd bytes.now result.now }
 {
@@ -24,7 +24,7 @@ pub fn without_first_zeros(bytes: &[u8]) -> &[u8]
     rest
 }
 
-/// The bytes without the words of zeros that they end with.
+/// The bytes without the zero words at their end.
 pub fn without_last_zeros(bytes: &[u8]) -> &[u8]
     ensures { AndZeros bytes.now result.now }
 {

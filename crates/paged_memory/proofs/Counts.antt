@@ -1,4 +1,4 @@
--- How many pages hold so many bytes, and how many of them are lent.
+-- How many pages hold a number of bytes, and how many of them are borrowed.
 use Rattle.std.proofs.Common.{◌≡◌, ℕ, zero, suc, ◌+◌, ◌-◌, ◌*◌, ◌/◌, ◌%◌, ◌<◌, ◌≤◌, min, Bool, true, false, List, [], ◌∷◌, ◌++◌, length, replicate, ⊎_elim, refl, ap, ◌∙◌, arith}
 use Rattle.std.proofs.lemmas.Bool.{cases_lt}
 use Rattle.std.proofs.lemmas.Nat.{div-add-mod'}
@@ -11,7 +11,7 @@ none-count size n some none = div-eq_of_lt (omega (arith, some, none))
 some-count : (size n : ℕ) → 0 < size → 0 < n → page_count size n ≡ (n - 1) / size + 1
 some-count size n wide some = ap (λ k. k / size) (omega (arith, wide, some)) ∙ add-div_right (n - 1) wide
 
--- whole pages, and bytes behind them
+-- complete pages, and bytes after them
 pub whole-count : (size pages n : ℕ) → 0 < size → page_count size (pages * size + n) ≡ pages + page_count size n
 whole-count size pages n wide = ap (λ k. k / size) (omega arith) ∙ mul-add-div_right wide pages (n + (size - 1))
 
@@ -25,7 +25,7 @@ more-count size n k wide some is = ⊎_elim
 pub whole-div : (size n : ℕ) → n % size ≡ 0 → n / size * size ≡ n
 whole-div size n whole = omega (arith, div-add-mod' n size, whole)
 
--- pages of zeros before an image, and pages behind it
+-- pages of zeros before an image, and pages after it
 pub before-count : (size start : ℕ) → 0 < size → start % size ≡ 0 → page_count size start ≡ start / size
 before-count size start wide whole =
     ap (page_count size) (omega (arith, whole-div size start whole)) ∙ whole-count size (start / size) 0 wide ∙ omega (arith, none-count size 0 wide refl)
@@ -41,7 +41,7 @@ pub reached-is : (size at : ℕ) (bytes : List ℕ) → 0 < length bytes → rea
 reached-is size at [] some = absurd (omega (arith, some))
 reached-is size at (b ∷ bytes) some = ap (λ k. k / size + 1 - at / size) (omega arith)
 
--- ---- how many are lent
+-- ---- how many are borrowed
 
 count-append : (a b : List Bool) → count_lent (a ++ b) ≡ count_lent a + count_lent b
 count-append [] b = omega arith

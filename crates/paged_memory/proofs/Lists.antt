@@ -12,7 +12,7 @@ use Rattle.paged_memory.specs.Writing.{written}
 use Rattle.paged_memory.proofs.Counts.{none-count, more-count, before-count, all-count}
 use Rattle.paged_memory.proofs.Paged.{written-more}
 
--- a page in the place of one of which the same is true
+-- a page replaces one of which the same is true
 pub map-set-same : {B : Type 0} (f : Page → B) (pages : List Page) (i : ℕ) (p d : Page) → f p ≡ f (get_or pages i d) → map f (set pages i p) ≡ map f pages
 map-set-same f [] i p d same = refl
 map-set-same f (q ∷ qs) zero p d same = ap (λ b. b ∷ map f qs) same
@@ -23,7 +23,7 @@ own-not-lent (Zero count) own = refl
 own-not-lent (Lent bytes) own = absurd (false≢true own)
 own-not-lent (Own bytes) own = refl
 
--- one more page is lent no more
+-- one more page is no longer borrowed
 pub not-lent-more : (pages : List Page) (old : List Bool) (from i : ℕ) (p : Page) → from ≤ i → i < length pages → IsTrue (is_own p) → length old ≡ length pages
     → lent_of pages ≡ not_lent from (i - from) old → lent_of (set pages i p) ≡ not_lent from (i + 1 - from) old
 not-lent-more pages old from i p order low own long before =
@@ -41,7 +41,7 @@ own-at (q ∷ qs) zero p (suc k) d low own other = other (λ e. omega (arith, e)
 own-at (q ∷ qs) (suc i) p zero d low own other = other (λ e. omega (arith, e))
 own-at (q ∷ qs) (suc i) p (suc k) d low own other = own-at qs i p k d (omega (arith, low)) own (λ apart. other (λ e. apart (omega (arith, e))))
 
--- one more page is own
+-- one more page is owned
 pub own-more : (pages : List Page) (from i : ℕ) (p : Page) → i < length pages → IsTrue (is_own p) → OwnBetween pages from i → OwnBetween (set pages i p) from (i + 1)
 own-more pages from i p low own all k above below = own-at pages i p k (Zero 0) low own (λ apart. all k above (omega (arith, apart, below)))
 
@@ -57,7 +57,7 @@ joined-push (q ∷ qs) p = ap (λ l. page_bytes q ++ l) (joined-push qs p) ∙ s
 pub lent-push : (pages : List Page) (p : Page) → lent_of (pages ++ p ∷ []) ≡ lent_of pages ++ is_lent p ∷ []
 lent-push pages p = map-append is_lent pages (p ∷ [])
 
--- one more page, before pages that are not lent
+-- one more page, before pages that are not borrowed
 pub not-lent-push : (size n k : ℕ) (pages : List Page) (p : Page) (all : List Bool) → 0 < size → 0 < n → k ≡ n - min n size → is_lent p ≡ false
     → lent_of pages ++ replicate (page_count size n) false ≡ all → lent_of (pages ++ p ∷ []) ++ replicate (page_count size k) false ≡ all
 not-lent-push size n k pages p all wide some is own before =
@@ -78,7 +78,7 @@ lent-more pages p old i is before =
     lent-push pages p ∙ ap (λ l. l ++ is_lent p ∷ []) before ∙ append_assoc old (replicate i true) (is_lent p ∷ [])
     ∙ ap (λ l. old ++ (replicate i true ++ l ∷ [])) is ∙ ap (λ l. old ++ l) (replicate_more i true)
 
--- pages that are continued by parts of so many bytes, of which the first is the next page
+-- pages that are followed by parts of a total size, of which the first is the next page
 module _ (G : List (List ℕ) → Type 0) (size k : ℕ) (pages : List Page) (continued : (parts : List (List ℕ)) → ArePaged size parts k → G (parts_of pages ++ parts)) where
   pub paged-push : (left : ℕ) (p : Page) → 0 < k → length (page_bytes p) ≡ min size k → left ≡ k - size
       → (parts : List (List ℕ)) → ArePaged size parts left → G (parts_of (pages ++ p ∷ []) ++ parts)
@@ -92,7 +92,7 @@ module _ (G : List (List ℕ) → Type 0) (size k : ℕ) (pages : List Page) (co
 whole-le : (size n : ℕ) → n % size ≡ 0 → 0 < n → size ≤ n
 whole-le size n whole some = ⊎_elim (λ less. absurd (omega (arith, mod-eq_of_lt less, whole, some))) (λ h. h) (cases_lt n size)
 
--- parts of whole pages, and parts behind them
+-- parts of complete pages, and parts after them
 pub paged-append : (size n m : ℕ) (ps qs : List (List ℕ)) → n % size ≡ 0 → ArePaged size ps n → ArePaged size qs m → ArePaged size (ps ++ qs) (n + m)
 paged-append size n m [] qs whole p q = subst (λ k. ArePaged size qs k) (omega (arith, p)) q
 paged-append size n m (p ∷ ps) qs whole paged q =

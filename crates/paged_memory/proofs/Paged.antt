@@ -1,4 +1,4 @@
--- Parts of one size, and what is written to one of them.
+-- Parts of one size, and a write to one of them.
 use Rattle.std.proofs.Common.{◌≡◌, ℕ, zero, suc, ◌+◌, ◌-◌, ◌*◌, ◌<◌, ◌≤◌, min, List, [], ◌∷◌, ◌++◌, length, get_or, set, take, drop, replicate, refl, sym, ap, ◌∙◌, append_assoc, length-append, arith}
 use Rattle.std.specs.List.{concat}
 use Rattle.std.proofs.lemmas.List.{take-append-le, drop-append-le, get_or_append_left, length-take-le, length-drop, get_or-append_right, drop-drop, drop_at, take_at, drop_more, set_at, length-replicate, replicate_more}
@@ -6,7 +6,7 @@ use Rattle.std.proofs.Math.Seq.{take-append-add}
 use Rattle.paged_memory.specs.Pages.{ArePaged}
 use Rattle.paged_memory.specs.Writing.{written}
 
--- a part that begins below the end is there, and is whole or ends at the end
+-- a part that begins below the end exists, and is complete or ends at the end
 pub record Part (size : ℕ) (parts : List (List ℕ)) (n i : ℕ) : Type 0 where
   pub there : i < length parts
   pub reach : length (get_or parts i []) ≡ min size (n - i * size)
@@ -28,7 +28,7 @@ part-at size (q ∷ qs) n (suc i) j d p in_part low =
     get_or-append_right q (concat qs) size (suc i * size + j) d whole (omega arith) ∙ ap (λ k. get_or (concat qs) k d) (omega arith)
     ∙ part-at size qs (n - size) i j d p.2 in_part (omega (arith, low))
 
--- a part of the same length in the place of one
+-- a part is replaced by one of the same length
 pub paged-set : (size : ℕ) (parts : List (List ℕ)) (n i : ℕ) (q : List ℕ) → ArePaged size parts n → length q ≡ length (get_or parts i []) → ArePaged size (set parts i q) n
 paged-set size [] n i q p same = p
 paged-set size (r ∷ rs) n zero q p same = (p.0, same ∙ p.1, p.2)
@@ -39,7 +39,7 @@ length-written at items old fits =
     length-append (take at old) (items ++ drop (at + length items) old)
     ∙ omega (arith, length-append items (drop (at + length items) old), length-take-le at old (omega (arith, fits)), length-drop (at + length items) old, fits)
 
--- written to the first of two lists
+-- a write to the first of two lists
 written-left : (at : ℕ) (items xs ys : List ℕ) → at + length items ≤ length xs → written at items (xs ++ ys) ≡ written at items xs ++ ys
 written-left at items xs ys fits =
     ap (λ l. l ++ (items ++ drop (at + length items) (xs ++ ys))) (take-append-le at xs ys (omega (arith, fits)))
@@ -50,7 +50,7 @@ written-left at items xs ys fits =
 drop-append-add : (xs ys : List ℕ) (n : ℕ) → drop (length xs + n) (xs ++ ys) ≡ drop n ys
 drop-append-add xs ys n = sym (drop-drop n (length xs) (xs ++ ys)) ∙ ap (drop n) (drop_at xs ys (length xs) refl)
 
--- and to the second
+-- a write to the second of two lists
 written-right : (k at : ℕ) (items xs ys : List ℕ) → k ≡ length xs + at → written k items (xs ++ ys) ≡ xs ++ written at items ys
 written-right k at items xs ys is =
     ap (λ m. written m items (xs ++ ys)) is
@@ -59,7 +59,7 @@ written-right k at items xs ys is =
     ∙ ap (λ l. (xs ++ take at ys) ++ (items ++ l)) (drop-append-add xs ys (at + length items))
     ∙ append_assoc xs (take at ys) (items ++ drop (at + length items) ys)
 
--- what is written to a part is written to the whole
+-- a write to a part is a write to the complete list
 pub written-part : (size : ℕ) (parts : List (List ℕ)) (n i j : ℕ) (items : List ℕ) → ArePaged size parts n → j + length items ≤ length (get_or parts i [])
     → i * size < n → concat (set parts i (written j items (get_or parts i []))) ≡ written (i * size + j) items (concat parts)
 written-part size [] n i j items p fits low = absurd (omega (arith, p, low))
@@ -70,7 +70,7 @@ written-part size (q ∷ qs) n (suc i) j items p fits low =
     ap (λ l. q ++ l) (written-part size qs (n - size) i j items p.2 fits (omega (arith, low)))
     ∙ sym (written-right (suc i * size + j) (i * size + j) items q (concat qs) (omega (arith, whole)))
 
--- written in two pieces
+-- a write in two pieces
 pub written-twice : (at : ℕ) (front back old : List ℕ) → at + (length front + length back) ≤ length old
     → written (at + length front) back (written at front old) ≡ written at (front ++ back) old
 written-twice at front back old fits =

@@ -23,15 +23,15 @@ is_lent (page.Own bytes) = false
 abbrev pub parts_of : List Page → List (List ℕ)
 parts_of pages = map page_bytes pages
 
--- the bytes of pages, end to end
+-- the bytes of pages, concatenated
 abbrev pub joined : List Page → List ℕ
 joined pages = concat (parts_of pages)
 
--- of each page, whether it is lent
+-- for each page, whether it is borrowed
 abbrev pub lent_of : List Page → List Bool
 lent_of pages = map is_lent pages
 
--- so many bytes in parts of one size; the last may be shorter
+-- n bytes in parts of one size; the last may be shorter
 abbrev pub ArePaged : ℕ → List (List ℕ) → ℕ → Type 0
 ArePaged size [] n = n ≡ 0
 ArePaged size (p ∷ ps) n = (0 < n) × (length p ≡ min size n) × ArePaged size ps (n - size)
@@ -39,6 +39,6 @@ ArePaged size (p ∷ ps) n = (0 < n) × (length p ≡ min size n) × ArePaged si
 abbrev pub OwnBetween : List Page → ℕ → ℕ → Type 0
 OwnBetween pages from until = (k : ℕ) → from ≤ k → k < until → IsTrue (is_own (slice_index_or pages k (page.Zero 0)))
 
--- parts of so many bytes come behind others
+-- parts of n bytes follow others
 abbrev pub Continued : ℕ → ℕ → List (List ℕ) → List (List ℕ) → Type 0
 Continued size n old new = (more : List (List ℕ)) × (new ≡ old ++ more) × ArePaged size more n

@@ -1,8 +1,8 @@
 //! A linear memory in pages, for code that runs a plan: each page is zero, copy-on-write over an
-//! image, or its own.
+//! image, or owned.
 //!
-//! `write` leaves the given bytes at the given place and all others unchanged, and never changes an
-//! image. After `OutOfMemory` all bytes are as before.
+//! `write` leaves the given bytes at the given offset and all others unchanged, and never changes
+//! an image. After `OutOfMemory` all bytes are as before.
 //!
 //! ```
 //! let mut memory = PagedMemory::with_image(alloc, 65536, 4096, 8192, image)?;

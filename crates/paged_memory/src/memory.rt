@@ -10,9 +10,9 @@ use entity_map::OutOfMemory;
 use std::alloc::Global;
 use std::marker::Model;
 
-/// Bytes in pages of one size, of which the last may be shorter. A page is zero and has no bytes of
-/// its own, or it is lent by others until it is written to, or it is the memory's own. A memory is
-/// seen as its bytes, the size of its pages, and which of them are lent.
+/// Bytes in pages of one size, of which the last may be shorter. A page is zero and stores no
+/// bytes, or it is borrowed until it is written to, or it is owned by the memory. A contract views
+/// a memory as its bytes, the size of its pages, and which of them are borrowed.
 #[derive(Drop)]
 pub struct PagedMemory<'t> {
     alloc: Global,
@@ -34,14 +34,14 @@ impl<'t> Model for PagedMemory<'t> {
 }
 
 impl<'t> PagedMemory<'t> {
-    /// How many bytes it has.
+    /// The number of its bytes.
     pub fn len(&self) -> u64
         ensures { result ≡ length self.now.bytes }
     {
         self.len as u64
     }
 
-    /// The byte at a place, which is counted from 0 and lies below the length.
+    /// The byte at an offset, which is counted from 0 and is below the length.
     pub fn byte(&self, at: u64) -> u8
         requires { at < length self.now.bytes }
         ensures { result ≡ slice_index self.now.bytes at }
@@ -49,7 +49,7 @@ impl<'t> PagedMemory<'t> {
         byte_at(&self.pages, self.size, at as usize)
     }
 
-    /// A copy of these bytes, in pages of `page` bytes that are all its own. `page` is not 0.
+    /// A copy of these bytes, in pages of `page` bytes that are all owned. `page` is not 0.
     ///
     /// Fails only where memory runs out.
     pub fn from_bytes(alloc: Global, bytes: &[u8], page: u64) -> Result<Self, OutOfMemory>
@@ -67,8 +67,9 @@ impl<'t> PagedMemory<'t> {
     }
 
     /// A memory of `len` bytes, in pages of `page` bytes. From `start` on it has the bytes of the
-    /// image, which is lent and not copied; all others are zero. `page` is not 0, the image begins
-    /// at a multiple of it, has whole pages, and ends within the length. It may be empty.
+    /// image, which is borrowed and not copied; all others are zero. `page` is not 0. The image
+    /// begins at a multiple of `page`, has complete pages, and ends within the length. It may be
+    /// empty.
     ///
     /// Fails only where memory runs out.
     pub fn with_image(
@@ -95,12 +96,12 @@ impl<'t> PagedMemory<'t> {
         })
     }
 
-    /// Writes these bytes from the place `at` on, counted from 0; the last of them lies below the
-    /// length. Every other byte stays. The pages that are written to are lent no more, all others
-    /// are what they were, and what was lent is never changed.
+    /// Writes these bytes from the offset `at` on, counted from 0; the last of them is below the
+    /// length. Every other byte stays. The pages that are written to are no longer borrowed, all
+    /// others are as before, and borrowed bytes are never changed.
     ///
     /// Fails only where memory runs out. Then no byte is changed, but the first of the pages that
-    /// were to be written to may be lent no more.
+    /// were to be written to may no longer be borrowed.
     pub fn write(&mut self, at: u64, bytes: &[u8]) -> Result<(), OutOfMemory>
         requires { at + length bytes.now ≤ length self.old.bytes }
         ensures ok { OnOk result (self.new.bytes ≡ written at bytes.now self.old.bytes) }
@@ -112,7 +113,7 @@ impl<'t> PagedMemory<'t> {
         write_pages(self.alloc, &mut self.pages, self.size, at as usize, bytes)
     }
 
-    /// How many pages are lent.
+    /// How many pages are borrowed.
     pub fn shared_pages(&self) -> u64
         ensures { result ≡ count_lent self.now.lent }
     {

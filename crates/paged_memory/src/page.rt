@@ -7,7 +7,7 @@ ghost use Rattle.paged_memory.specs.Writing.{written};
 use entity_map::OutOfMemory;
 use std::alloc::Global;
 
-/// The bytes of a page: so many zeros, or bytes that are lent, or its own.
+/// The bytes of a page: a number of zeros, borrowed bytes, or owned bytes.
 #[derive(Drop)]
 pub(crate) enum Page<'t> {
     Zero(usize),
@@ -27,7 +27,7 @@ pub(crate) fn byte_in(page: &Page<'_>, at: usize) -> u8
     }
 }
 
-/// Makes a page own. It holds what it held; where memory runs out it is what it was.
+/// Makes a page owned. Its bytes stay the same; where memory runs out the page is unchanged.
 pub(crate) fn own(alloc: Global, page: &mut Page<'_>) -> Result<(), OutOfMemory>
     ensures bytes { page_bytes page.new ≡ page_bytes page.old }
     ensures own { OnOk result (IsTrue (is_own page.new)) }
@@ -42,14 +42,14 @@ pub(crate) fn own(alloc: Global, page: &mut Page<'_>) -> Result<(), OutOfMemory>
     Ok(())
 }
 
-/// So many zeros.
+/// A number of zeros.
 fn zeros(alloc: Global, len: usize) -> Result<Vec<u8>, OutOfMemory>
     ensures { IfOk result (λ v. v.items ≡ replicate len 0) }
 {
     Ok(vec![in alloc; 0; len]?)
 }
 
-/// Writes to a page that is own.
+/// Writes to a page that is owned.
 pub(crate) fn put_in(page: &mut Page<'_>, at: usize, bytes: &[u8])
     requires own { IsTrue (is_own page.old) }
     requires within { at + length bytes.now ≤ length (page_bytes page.old) }
@@ -62,7 +62,7 @@ pub(crate) fn put_in(page: &mut Page<'_>, at: usize, bytes: &[u8])
     }
 }
 
-/// 1 for a page that is lent, 0 for another.
+/// 1 for a borrowed page, 0 for another.
 pub(crate) fn lent(page: &Page<'_>) -> u64
     ensures { result ≡ (if is_lent page.now then 1 else 0) }
 {

@@ -9,7 +9,7 @@ use crate::page::{Page, byte_in, lent, own, put_in};
 use entity_map::OutOfMemory;
 use std::alloc::Global;
 
-/// A byte of pages of such a size.
+/// A byte of pages of this size.
 pub(crate) fn byte_at(pages: &[Page<'_>], size: usize, at: usize) -> u8
     requires size { 0 < size }
     requires paged { ArePaged size (parts_of pages.now) (length (joined pages.now)) }
@@ -22,7 +22,7 @@ pub(crate) fn byte_at(pages: &[Page<'_>], size: usize, at: usize) -> u8
     byte_in(&pages[index], at % size)
 }
 
-/// Makes pages own.
+/// Makes pages owned.
 pub(crate) fn own_pages(
     alloc: Global,
     pages: &mut [Page<'_>],
@@ -42,7 +42,7 @@ pub(crate) fn own_pages(
     Ok(())
 }
 
-/// Writes to pages that are own, as far as they are reached.
+/// Writes to owned pages, as far as they are reached.
 pub(crate) fn put(pages: &mut [Page<'_>], size: usize, at: usize, bytes: &[u8], until: usize)
     requires size { 0 < size }
     requires small { length (joined pages.old) < 2 ^ 64 }
@@ -69,7 +69,7 @@ pub(crate) fn put(pages: &mut [Page<'_>], size: usize, at: usize, bytes: &[u8], 
     }
 }
 
-/// Writes to pages, which become own where it reaches.
+/// Writes to pages, which become owned where the write reaches.
 pub(crate) fn write_pages(
     alloc: Global,
     pages: &mut [Page<'_>],
@@ -96,7 +96,7 @@ pub(crate) fn write_pages(
     Ok(())
 }
 
-/// How many pages are lent.
+/// How many pages are borrowed.
 pub(crate) fn lent_pages(pages: &[Page<'_>]) -> u64
     ensures { result ≡ count_lent (lent_of pages.now) }
 {
@@ -107,7 +107,7 @@ pub(crate) fn lent_pages(pages: &[Page<'_>]) -> u64
     count
 }
 
-/// Own pages with these bytes.
+/// Owned pages with these bytes.
 pub(crate) fn copied<'t>(
     alloc: Global,
     bytes: &[u8],
@@ -129,7 +129,7 @@ pub(crate) fn copied<'t>(
     Ok(pages)
 }
 
-/// Appends so many zeros, in pages of such a size.
+/// Appends a number of zeros, in pages of this size.
 fn push_zeros(pages: &mut Vec<Page<'_>>, len: usize, size: usize) -> Result<(), OutOfMemory>
     requires size { 0 < size }
     ensures bytes { OnOk result (joined pages.new.items ≡ joined pages.old.items ++ replicate len 0) }
@@ -145,7 +145,7 @@ fn push_zeros(pages: &mut Vec<Page<'_>>, len: usize, size: usize) -> Result<(), 
     Ok(())
 }
 
-/// Appends so many pages, which are lent.
+/// Appends this many pages, which are borrowed.
 fn push_lent<'t>(
     pages: &mut Vec<Page<'t>>,
     bytes: &'t [u8],
@@ -167,7 +167,7 @@ fn push_lent<'t>(
     Ok(())
 }
 
-/// Zeros, and an image that is lent page by page.
+/// Zeros, and an image that is borrowed page by page.
 pub(crate) fn imaged<'t>(
     alloc: Global,
     len: usize,

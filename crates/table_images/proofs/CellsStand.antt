@@ -1,4 +1,4 @@
--- Cells as they stand in images.
+-- Cells as images store them.
 use Rattle.std.proofs.Common.{◌≡◌, ℕ, zero, suc, ◌<◌, Bool, List, [], ◌∷◌, length, get_or, map, replicate, All, Option, None, Some, refl, ◌∙◌, ap, arith}
 use Rattle.std.specs.Prelude.{unwrap_or, IsSome, IsTrue}
 use Rattle.std.specs.Global.{Vec}
@@ -67,7 +67,7 @@ pub at-expressions : (elements : TableSegmentElements) (ty : WasmRefType) (expre
     → cell_of r ≡ get_or (image_cells (items_of elements)) i None
 at-expressions elements ty expressions e i x r l are is found = grind (arith, expression-at)
 
--- what holds of the images of elements holds of the elements
+-- a fact of the images of elements holds of the elements
 unmapped : {A B : Type 0} (f : A → B) (P : B → Type 0) (xs : List A) → All P (map f xs) → All (λ x. P (f x)) xs
 unmapped f P [] h = All-nil (λ x. P (f x))
 unmapped f P (x ∷ xs) h = All-cons (λ y. P (f y)) x xs (All-head P (f x) (map f xs) h) (unmapped f P xs (All-tail P (f x) (map f xs) h))

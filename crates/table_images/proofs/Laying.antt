@@ -1,4 +1,4 @@
--- Cells over an image.
+-- Cells that are written over an image.
 use Rattle.std.proofs.Common.{◌≡◌, ◌≢◌, ℕ, ◌+◌, ◌-◌, ◌<◌, ◌≤◌, List, ◌++◌, length, get_or, set, take, replicate, Option, None, Some, arith}
 use Rattle.std.specs.Prelude.{slice_get, unwrap_or}
 use Rattle.std.specs.Global.{Vec}
@@ -51,7 +51,7 @@ pub grown-cells : (old new : List (Index FuncSpace)) (end len : ℕ) (r : Index 
     → new ≡ take end old ++ replicate (end - len) r → r ≡ index_of 4294967295 → image_of new ≡ grown end (image_of old)
 grown-cells old new end len r e lt is reserved = grind (arith, take_all, length-map, map-append, cells-replicate)
 
--- ---- one image of all
+-- ---- one of all images
 
 pub lays-at : (place : ℕ) (cells : List (Option ℕ)) (images : List (Vec (Index FuncSpace))) (k : ℕ) (v w : Vec (Index FuncSpace)) → k < length images
     → LaysCells place cells (image_of (get_or images k v).items) (image_of w.items) → LaysAt k place cells (images_of images) (images_of (set images k w))

@@ -1,4 +1,4 @@
--- The plan of the code is the plan of the definitions.
+-- The plan that the code makes is the plan of the definitions.
 use Rattle.std.proofs.Common.{◌≡◌, ℕ, Bool, true, false, List, [], ◌∷◌, length, map, take, drop, Option, refl, ◌∙◌, arith}
 use Rattle.wasm_types.specs.declared.table.Table.{Table}
 use Rattle.wasm_module.specs.declared.table_initialization.TableInitialValue.{TableInitialValue}
@@ -22,7 +22,7 @@ table-plan lazy imported ts vs ws active taken kept images a b c initials prefix
   images = λ i d p at made. are.each i d p.image at (planned-image ts ws images i p made);
 }
 
--- where images are wanted: those of the taken segments
+-- where images are wanted: those of the segments that are moved into images
 pub planned-images : (imported : ℕ) (ts : List Table) (vs ws : List TableInitialValue) (segments kept : List TableSegment) (n : ℕ) (first images : List (List (Option ℕ)))
     → length ts ≡ length vs → length ws ≡ length vs → map initial_of ws ≡ map (kept_initial true) (defined_tables_of ts vs) → kept ≡ drop n segments
     → first ≡ map (first_image true) (defined_tables_of ts vs)
@@ -32,7 +32,7 @@ pub planned-images : (imported : ℕ) (ts : List Table) (vs ws : List TableIniti
 planned-images imported ts vs ws segments kept n first images a b initials is begin taken stops =
     grind (arith, first-images true imported (defined_tables_of ts vs) first begin, length-defined ts vs a, takes-prefix imported (defined_tables_of ts vs) segments n images, table-plan true imported ts vs ws)
 
--- where none is wanted: empty ones
+-- where none is wanted: empty images
 pub planned-none : (lazy : Bool) (imported : ℕ) (ts : List Table) (vs : List TableInitialValue) (segments : List TableSegment) (images : List (List (Option ℕ))) → lazy ≡ false
     → length ts ≡ length vs → images ≡ map (first_image lazy) (defined_tables_of ts vs)
     → IsTablePlan lazy imported (defined_tables_of ts vs) (map active_elements_of segments) (table_plan_of ts vs segments images)

@@ -1,4 +1,4 @@
--- Initialisers that stand where they stood.
+-- Initialisers that keep their positions.
 use Rattle.std.proofs.Common.{◌≡◌, ℕ, ◌<◌, List, length, get_or, set, arith}
 use Rattle.std.proofs.lemmas.Bool.{cases_eq}
 use Rattle.std.proofs.lemmas.List.{get_or-set_same, get_or-set_other}
@@ -7,7 +7,7 @@ use Rattle.wasm_module.specs.declared.table_initialization.TableInitialValue.{Ta
 use Rattle.wasm_module.specs.declared.table_initialization.TableInitialValue.TheVariants as initial
 use Rattle.table_images.specs.Left.{StandStill}
 
--- one is written that is the one which stood there
+-- a write of the initialiser that is already there
 pub still-step : (old now : List TableInitialValue) (i : ℕ) (v : TableInitialValue) → i < length now
     → ((e : ConstExpr) → v ≡ initial.Expr e → get_or now i initial.Null ≡ initial.Expr e) → StandStill old now → StandStill old (set now i v)
 still-step old now i v lt here so_far k e is = grind (arith, cases_eq, get_or-set_same, get_or-set_other)

@@ -23,7 +23,7 @@ use Rattle.table_images.proofs.Tables.{defined-at, made-of}
 -- ---- the rule
 
 module _ (imported : ℕ) (ts : List Table) (vs : List TableInitialValue) (s : TableSegment) where
-  -- a segment that the code takes is one of the definitions
+  -- a segment that the code moves into an image is one that the definitions allow
   pub spot-taken : (spot : Spot) → IsSpot imported ts vs s spot → MayBeTaken true imported (defined_tables_of ts vs) (active_elements_of s)
   spot-taken spot is = grind (arith, defined-at ts vs _ is.table is.value is.is_table is.is_value, is.place)
 
@@ -53,7 +53,7 @@ module _ (imports : ℕ) (ds : List DefinedTable) (taken : List ActiveElements) 
   starts-at : unwrap_or (constant_place a.offset) 0 ≡ place
   starts-at = ap (λ o. unwrap_or o 0) at_place
 
-  -- the image that the segment is laid into
+  -- the image that the segment is written to
   step-here : (m : ℕ) (d : DefinedTable) (old new : List (Option ℕ)) → a.table ≡ m → slice_get ds (a.table - imports) ≡ Some d → LaysCells place (image_cells a.items) old new
       → IsTableImage true taken m d old → IsTableImage true (taken ++ a ∷ []) m d new
   step-here m d old new on at lays prior =
@@ -133,6 +133,6 @@ pub takes-prefix : (imported : ℕ) (ds : List DefinedTable) (segments : List Ta
     → TakesPrefix true imported ds (map active_elements_of segments) (map active_elements_of (take n segments)) (map active_elements_of (drop n segments))
 takes-prefix imported ds segments n images h stops = grind (arith, map-append active_elements_of (take n segments) (drop n segments), take-append-drop n segments)
 
--- where no image is wanted nothing is taken
+-- where no image is wanted no segment is moved
 pub takes-none : (imported : ℕ) (ds : List DefinedTable) (active : List ActiveElements) → TakesPrefix false imported ds active [] active
 takes-none imported ds active = grind (arith, All-nil, false≢true)

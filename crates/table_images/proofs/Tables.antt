@@ -1,4 +1,4 @@
--- Tables, initial values and images, side by side.
+-- Tables, initial values and images, with equal positions.
 use Rattle.std.proofs.Common.{◌≡◌, ℕ, zero, suc, ◌+◌, ◌<◌, List, [], ◌∷◌, ◌++◌, length, get_or, set, map, take, drop, replicate, Option, Some, refl, sym, ◌∙◌, ap, subst, arith, Bool, true, false}
 use Rattle.std.specs.Prelude.{slice_get}
 use Rattle.std.specs.Global.{Vec}
@@ -23,7 +23,7 @@ defined-at (x ∷ ts) [] i t v at is = absurd (none-some v is)
 defined-at (x ∷ ts) (y ∷ vs) zero t v at is = grind arith
 defined-at (x ∷ ts) (y ∷ vs) (suc i) t v at is = defined-at ts vs i t v at is
 
--- what a defined table is made of
+-- the parts of a defined table
 pub record MadeOf (ts : List Table) (vs : List TableInitialValue) (i : ℕ) (d : DefinedTable) : Type 0 where
   pub table : Table
   pub value : TableInitialValue
@@ -50,7 +50,7 @@ defined-more (x ∷ ts) [] i t v l m = absurd (omega arith)
 defined-more (x ∷ ts) (y ∷ vs) zero t v l m = refl
 defined-more (x ∷ ts) (y ∷ vs) (suc i) t v l m = grind (arith, defined-more ts vs i t v)
 
--- ---- what is planned
+-- ---- the plan
 
 pub planned-minimums : (ts : List Table) (vs ws : List TableInitialValue) (images : List (List (Option ℕ))) → length ts ≡ length vs → length ws ≡ length vs → length images ≡ length vs
     → map (λ (p : PlannedTable). p.minimum) (planned_tables_of ts ws images) ≡ map (λ (d : DefinedTable). d.minimum) (defined_tables_of ts vs)

@@ -14,7 +14,7 @@ use Rattle.replay_spec.specs.Tables.{AreCells, image_cells, constant_place, most
 use Rattle.table_images.specs.declared.spot.Spot.{Spot}
 use Rattle.table_images.specs.Views.{image_of, items_of, defined_table_of}
 
--- a function that an image can hold: the last number of 32 bits stands for null
+-- a function that an image can hold: the greatest 32-bit number represents null
 abbrev pub IsCell : Option ℕ → Type 0
 IsCell cell = IfSome cell (λ function. function < 4294967295)
 
@@ -28,12 +28,12 @@ SegmentsHoldFunctions active = All (λ s. AreFunctions (image_cells s.items)) ac
 abbrev pub TablesHoldFunctions : List DefinedTable → Type 0
 TablesHoldFunctions tables = All (λ t. IsCell (initial_function t.initial)) tables
 
--- a cell as it stands in an image
+-- a cell as an image stores it
 abbrev pub index_cell : Option ℕ → Index FuncSpace
 index_cell None = index_of 4294967295
 index_cell (Some function) = index_of function
 
--- a segment may be laid into the image of a table
+-- the table and the position where a segment may be written into an image
 pub record IsSpot (imported : ℕ) (tables : List Table) (values : List TableInitialValue) (s : TableSegment) (spot : Spot) : Type 0 where
   pub table : Table
   pub value : TableInitialValue
@@ -48,19 +48,19 @@ pub record IsSpot (imported : ℕ) (tables : List Table) (values : List TableIni
   pub within : spot.place + length (image_cells (items_of s.elements)) ≤ table.limits.min
   pub small : spot.place + length (image_cells (items_of s.elements)) ≤ most_cells
 
--- cells are laid over an image that reaches their end
+-- cells are written over an image that reaches their end
 pub record OverlaysCells (place : ℕ) (cells old new : List (Option ℕ)) : Type 0 where
   pub reach : length new ≡ length old
   pub cells_at : (p : ℕ) → p < length new → slice_get new p
       ≡ Some (unwrap_or (item_at 0 p (record { object = 0; offset = place; items = cells })) (unwrap_or (slice_get old p) None))
 
--- cells are laid over an image, which grows with nulls to their end
+-- cells are written over an image, which grows with nulls to their end
 pub record LaysCells (place : ℕ) (cells old new : List (Option ℕ)) : Type 0 where
   pub reach : length new ≡ max (length old) (place + length cells)
   pub cells_at : (p : ℕ) → p < length new → slice_get new p
       ≡ Some (unwrap_or (item_at 0 p (record { object = 0; offset = place; items = cells })) (unwrap_or (slice_get old p) None))
 
--- an image that nulls lengthen to an end
+-- an image that is extended with nulls to an end
 abbrev pub grown : ℕ → List (Option ℕ) → List (Option ℕ)
 grown end image = image ++ replicate (end - length image) None
 
@@ -68,17 +68,17 @@ grown end image = image ++ replicate (end - length image) None
 abbrev pub images_of : List (Vec (Index FuncSpace)) → List (List (Option ℕ))
 images_of images = map (λ image. image_of image.items) images
 
--- cells are laid over the image of one table
+-- cells are written over the image of one table
 pub record LaysAt (table place : ℕ) (cells : List (Option ℕ)) (old new : List (List (Option ℕ))) : Type 0 where
   pub count : length new ≡ length old
   pub here : (v w : List (Option ℕ)) → slice_get old table ≡ Some v → slice_get new table ≡ Some w → LaysCells place cells v w
   pub there : (k : ℕ) → k ≢ table → slice_get new k ≡ slice_get old k
 
--- the image of a table before any segment is laid
+-- the image of a table before any segment is written
 abbrev pub first_image : Bool → DefinedTable → List (Option ℕ)
 first_image lazy t = if is_imaged_from_start lazy t then replicate t.minimum (initial_function t.initial) else []
 
--- the images once these segments are taken
+-- the images once these segments are in them
 pub record AreTableImages (lazy : Bool) (imports : ℕ) (tables : List DefinedTable) (taken : List ActiveElements) (images : List (List (Option ℕ))) : Type 0 where
   pub count : length images ≡ length tables
   pub takes : All (MayBeTaken lazy imports tables) taken

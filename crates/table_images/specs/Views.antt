@@ -17,7 +17,7 @@ use Rattle.wasm_module.specs.declared.table_initialization.TableSegmentElements.
 use Rattle.replay_spec.specs.Elements.{Items, Functions, Expressions, ActiveElements, DefinedTable}
 use Rattle.replay_spec.specs.Tables.{PlannedTable, TablePlan}
 
--- a cell of an image; the reserved index stands for null
+-- a cell of an image; the reserved index represents null
 abbrev pub cell_of : Index FuncSpace → Option ℕ
 cell_of index = if number_of index == 4294967295 then None else Some (number_of index)
 
@@ -49,7 +49,7 @@ defined_tables_of [] values = []
 defined_tables_of (t ∷ ts) [] = []
 defined_tables_of (t ∷ ts) (v ∷ vs) = defined_table_of t v ∷ defined_tables_of ts vs
 
--- what is planned of the defined tables, each with its initial value and its image
+-- the plan of the defined tables, each with its initial value and its image
 abbrev pub planned_tables_of : List Table → List TableInitialValue → List (List (Option ℕ)) → List PlannedTable
 planned_tables_of [] values images = []
 planned_tables_of (t ∷ ts) [] images = []

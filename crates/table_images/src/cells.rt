@@ -1,4 +1,4 @@
-//! What element segments hold, as cells of an image.
+//! The items of element segments, as cells of an image.
 
 ghost use Rattle.std.specs.Prelude.{◌≡◌, ◌<◌, ◌↔◌, All, IsSome, IsTrue, None, length, slice_index_or, unwrap_or};
 ghost use Rattle.std.specs.Option.{option_map};
@@ -13,7 +13,9 @@ use wasm_convert::{ConstExpr, ConstOp, GlobalConstValue};
 use wasm_index::FuncIndex;
 use wasm_module::TableSegmentElements;
 
-/// The cell of an expression that is one `ref.func` or one `ref.null`; the reserved index stands for null.
+/// The cell of an expression that is one `ref.func` or one `ref.null`; the reserved index
+/// represents
+/// null.
 pub(crate) fn cell_of(expr: &ConstExpr) -> Option<FuncIndex>
     ensures { result ≡ option_map index_cell (expression_cell (expression_of expr.now)) }
 {
@@ -40,7 +42,7 @@ pub(crate) fn are_cells(elements: &TableSegmentElements) -> bool
     }
 }
 
-/// The cell of one item; an item that has none is null.
+/// The cell of one item; an item without a cell gives null.
 pub(crate) fn cell_at(elements: &TableSegmentElements, i: usize) -> FuncIndex
     requires within { i < length (image_cells (items_of elements.now)) }
     requires functions { AreFunctions (image_cells (items_of elements.now)) }
@@ -54,7 +56,7 @@ pub(crate) fn cell_at(elements: &TableSegmentElements, i: usize) -> FuncIndex
     }
 }
 
-/// The place that an offset names, where its value is a constant of an integer class.
+/// The position that an offset expression gives, where its value is a constant of an integer type.
 pub(crate) fn place_of(offset: &ConstExpr) -> Option<u64>
     ensures { result ≡ constant_place (expression_of offset.now) }
 {

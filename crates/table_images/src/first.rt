@@ -1,4 +1,4 @@
-//! Tables before any segment is laid.
+//! Tables before any segment is written.
 
 ghost use Rattle.std.specs.Prelude.{◌≡◌, ◌<◌, ◌≤◌, ◌-◌, length, map, true, IfOk};
 ghost use Rattle.wasm_convert.specs.declared.constants.ConstExpr.{ConstExpr};
@@ -16,7 +16,7 @@ use wasm_index::{DefinedTableIndex, FuncIndex};
 use wasm_module::TableInitialValue;
 use wasm_types::Table;
 
-/// The image of a table before any segment is laid.
+/// The image of a table before any segment is written.
 fn first_image(
     alloc: Global,
     lazy: bool,
@@ -35,7 +35,7 @@ fn first_image(
     Ok(Vec::new(alloc))
 }
 
-/// The images of the defined tables before any segment is laid.
+/// The images of the defined tables before any segment is written.
 pub(crate) fn first_images(
     alloc: Global,
     lazy: bool,

@@ -11,7 +11,7 @@ use entity_map::{OutOfMemory, ReservedValue};
 use wasm_index::FuncIndex;
 use wasm_module::TableSegmentElements;
 
-// Lengthens an image with nulls to an end.
+// Extends an image with nulls to an end.
 fn grow(image: &mut Vec<FuncIndex>, end: usize) -> Result<(), OutOfMemory>
     ensures { OnOk result (image_of image.new.items ≡ grown end (image_of image.old.items)) }
 {
@@ -21,7 +21,7 @@ fn grow(image: &mut Vec<FuncIndex>, end: usize) -> Result<(), OutOfMemory>
     Ok(())
 }
 
-// Lays the elements of a segment over an image that reaches their end.
+// Writes the elements of a segment over an image that reaches their end.
 fn fill(image: &mut [FuncIndex], place: usize, elements: &TableSegmentElements)
     requires reach { place + length (image_cells (items_of elements.now)) ≤ length image.old }
     requires functions { AreFunctions (image_cells (items_of elements.now)) }
@@ -32,7 +32,7 @@ fn fill(image: &mut [FuncIndex], place: usize, elements: &TableSegmentElements)
     }
 }
 
-/// Lays the elements of a segment over an image, which grows with nulls to their end.
+/// Writes the elements of a segment over an image, which grows with nulls to their end.
 fn lay(
     image: &mut Vec<FuncIndex>,
     place: usize,
@@ -47,7 +47,7 @@ fn lay(
     Ok(())
 }
 
-/// Lays the elements of a segment over the image of a table.
+/// Writes the elements of a segment over the image of a table.
 pub(crate) fn lay_at(
     images: &mut [Vec<FuncIndex>],
     spot: Spot,

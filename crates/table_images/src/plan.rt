@@ -16,7 +16,8 @@ use wasm_index::{DefinedTableIndex, FuncIndex};
 use wasm_module::{TableInitialValue, TableInitialization, TableSegment};
 use wasm_types::Table;
 
-// Lays the segments into the images up to the first that may not be taken, and returns how many are taken.
+// Writes the segments into the images up to the first that may not be in an image, and returns
+// how many are written.
 fn take_segments(
     images: &mut [Vec<FuncIndex>],
     imported: usize,
@@ -72,9 +73,9 @@ fn plan_images(
 }
 
 /// Plans the tables of a module, of which the first `imported` are imported. Gives the image of
-/// each defined table: of the function that it holds from the start, and of the longest beginning
-/// of the element segments that may be taken. The initialisers of tables that are imaged from the
-/// start and the taken segments are dropped; the others are left, in order.
+/// each defined table: of the function that it holds from the start, and of the longest prefix of
+/// the element segments that may be in images. The initialisers of tables that are imaged from the
+/// start, and the segments in images, are dropped; the others remain, in order.
 ///
 /// # Errors
 /// `OutOfMemory`; the initialisation may then only be dropped.

@@ -1,4 +1,4 @@
-//! Where a segment is laid.
+//! Where a segment is written.
 
 ghost use Rattle.std.specs.Prelude.{◌≡◌, ◌↔◌, IsTrue, IfSome, IfNone, None, is_some, true};
 ghost use Rattle.std.specs.Option.{option_map};
@@ -17,15 +17,15 @@ use wasm_types::{Table, WasmHeapTopType};
 /// The largest image, in cells.
 pub(crate) const MOST_CELLS: u64 = 1048576;
 
-/// Where a segment is laid into an image: the table, by its number among the defined ones, and the
-/// place of the first cell.
+/// Where a segment is written into an image: the table, by its number among the defined ones, and
+/// the position of the first cell.
 #[derive(Clone, Copy)]
 pub(crate) struct Spot {
     pub(crate) table: usize,
     pub(crate) place: usize,
 }
 
-/// The function that a table holds from the start, where it is imaged with it.
+/// The function that a table holds from the start, where the image includes it.
 pub(crate) fn start_function(table: &Table, value: &TableInitialValue) -> Option<FuncIndex>
     ensures imaged { is_some result ≡ is_imaged_from_start true (defined_table_of table.now value.now) }
     ensures function { IfSome result (λ f. initial_function (defined_table_of table.now value.now).initial ≡ Some (number_of f)) }
@@ -46,7 +46,7 @@ pub(crate) fn keeps_none(table: &Table, value: &TableInitialValue) -> bool
     }
 }
 
-/// Where a segment is laid, if it may be taken; `tables` are the defined ones.
+/// Where a segment is written, if it may be in an image; `tables` are the defined ones.
 pub(crate) fn spot_of(
     imported: usize,
     tables: &[Table],

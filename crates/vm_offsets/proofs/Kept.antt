@@ -1,4 +1,4 @@
--- Entries that are kept, place by place.
+-- Entries that are kept, one position after another.
 use Rattle.std.proofs.Common.{◌≡◌, ℕ, ◌<◌, List, length, Some, sym, ap, ◌∙◌}
 use Rattle.std.specs.Prelude.{slice_get}
 use Rattle.std.specs.Option.{option_map}

@@ -19,7 +19,7 @@ pub regions_back-labelled : (end : ℕ) (xs : List Placed) → regions_back end 
 regions_back-labelled end [] = refl
 regions_back-labelled end (x ∷ xs) = ap (λ regions. (x.description, end - x.begin) ∷ regions) (regions_back-labelled x.begin xs)
 
--- the labels fall from the end
+-- the labels descend from the end
 abbrev pub LabelsFall : ℕ → List (List ℕ × ℕ) → Type 0
 LabelsFall end [] = ⊤
 LabelsFall end (l ∷ ls) = (l.1 ≤ end) × LabelsFall l.1 ls
@@ -43,7 +43,7 @@ reverse-label : (x : Placed) (xs : List Placed)
     → map entry_label (reverse (x ∷ xs)) ≡ map entry_label (reverse xs) ++ entry_label x ∷ []
 reverse-label x xs = ap (map entry_label) (reverse-append (x ∷ []) xs) ∙ map-append entry_label (reverse xs) (x ∷ [])
 
--- what rises to the end falls from it in reverse order
+-- entries that ascend to the end descend from it in reverse order
 pub reversed : (at : ℕ) (xs : List Placed) (end : ℕ) → Rises at xs end
     → LabelsFall end (map entry_label (reverse xs)) × (at ≤ lowest end (map entry_label (reverse xs)))
 reversed at [] end rises = (tt, rises)
@@ -54,7 +54,7 @@ reversed at (x ∷ xs) end rises =
       rw lowest-append rises.0,
     )
 
--- what falls from the end adds up to it, less the first byte of the last label
+-- the regions of descending labels add up to the end, less the first byte of the last label
 pub sum_by-labelled : (end : ℕ) (ls : List (List ℕ × ℕ)) → LabelsFall end ls
     → sum_by (λ (r : List ℕ × ℕ). r.1) (labelled end ls) + lowest end ls ≡ end
 sum_by-labelled end [] falls = omega arith
@@ -90,7 +90,7 @@ module _ {P : Type 0} (pointer : ℕ) (c : VMOffsetsFields P) where
       ∙ ap (λ end. labelled end (map entry_label (reverse (static_part ∷ context_entries pointer c)))) sized
       ∙ sym (regions_back-labelled (context_size pointer c) (reverse (static_part ∷ context_entries pointer c)))
 
-  -- and fall from its end
+  -- and descend from its end
   pub Falls-context : (size : ℕ) (parts : List ContextPart)
       → map part_label parts ≡ map entry_label (reverse (static_part ∷ context_entries pointer c)) → size ≡ context_size pointer c
       → Falls size parts

@@ -1,4 +1,4 @@
--- Entries stand in order, and regions add up.
+-- Entries are in order, and regions add up.
 use Rattle.std.proofs.Common.{ℕ, ◌+◌, ◌*◌, ◌≤◌, List, [], ◌∷◌, arith}
 use Rattle.std.specs.Prelude.{All, AllPairs}
 use Rattle.std.specs.Int.{next_multiple_of}
@@ -27,14 +27,14 @@ pub all_rise : {P : Type 0} (pointer : ℕ) (c : VMOffsetsFields P)
 unfolding context_entries context_size
 all_rise pointer c = (omega arith, rises 0 (end_of static_context pointer) (context_table pointer c) (omega arith))
 
--- no entry begins before the table
+-- no entry begins before the table does
 after : (at : ℕ) (rows : List Row) → All (λ placed. at ≤ placed.begin) (placed_from at rows)
 after at [] = λ k d h. absurd (omega arith)
 after at (align to ∷ rows) = λ k d h. omega (arith, after (next_multiple_of at to) rows k d h)
 after at (entry description count size ∷ rows) =
     All-cons (λ (placed : Placed). at ≤ placed.begin) _ _ (omega arith) (λ k d h. omega (arith, after (at + count * size) rows k d h))
 
--- nor before an earlier one ends
+-- no entry begins before an earlier one ends
 apart : (at : ℕ) (rows : List Row) → AllPairs (λ earlier later. entry_end earlier ≤ later.begin) (placed_from at rows)
 apart at [] = λ i j d below room. absurd (omega arith)
 apart at (align to ∷ rows) = apart (next_multiple_of at to) rows
@@ -42,7 +42,7 @@ apart at (entry description count size ∷ rows) =
     AllPairs-cons (λ (earlier later : Placed). entry_end earlier ≤ later.begin) _ _
     (after (at + count * size) rows) (apart (at + count * size) rows)
 
--- nor does one end after the table
+-- no entry ends after the table does
 within : (at : ℕ) (rows : List Row) → All (λ placed. entry_end placed ≤ end_from at rows) (placed_from at rows)
 within at [] = λ k d h. absurd (omega arith)
 within at (align to ∷ rows) = within (next_multiple_of at to) rows

@@ -1,4 +1,4 @@
--- Rows are placed one by one, and never before the start.
+-- Rows are placed one by one, and never before the start of the table.
 use Rattle.std.proofs.Common.{◌≡◌, ℕ, ◌+◌, ◌*◌, ◌<◌, ◌≤◌, List, [], ◌∷◌, ◌++◌, length, map, take, drop, get_or, slice_set, None, Some, refl, sym, ap, ◌∙◌, append_assoc, append-nil, add-one, drop-cons, arith}
 use Rattle.std.proofs.lemmas.List.{map-append, take_more_set, take_all, drop_all}
 use Rattle.std.specs.Int.{next_multiple_of}
@@ -88,7 +88,7 @@ placed_from-step at entries total rows i d begin count size stride below room be
     ∙ ap (λ back. map kept_extent (take i entries) ++ back) (sym opened)
     ∙ before)
 
--- at the end all entries stand
+-- at the end all entries are placed
 pub all_placed : (at : ℕ) (entries : List Entry) (total : List (ℕ × ℕ × ℕ)) (rows : List KeptRow) (i : ℕ)
     → length rows ≤ i → length entries ≤ i
     → map kept_extent (take i entries) ++ map placed_extent (placed_from at (rows_of (drop i rows))) ≡ total

@@ -33,7 +33,7 @@ context_table pointer c =
     ∷ entry (codes "runtime data lengths") c.num_runtime_data 4
     ∷ []
 
--- an entry at its place
+-- an entry with its position
 pub record Placed : Type 0 where
   pub description : List ℕ
   pub begin : ℕ
@@ -66,7 +66,7 @@ context_entries pointer c = placed_from (end_of static_context pointer) (context
 unfoldable pub context_size : {P : Type 0} → ℕ → VMOffsetsFields P → ℕ
 context_size pointer c = end_from (end_of static_context pointer) (context_table pointer c)
 
--- the entry of a description among these, if there is one
+-- the entry with a description among these, if there is one
 abbrev pub entry_named : List ℕ → List Placed → Option Placed
 entry_named description [] = None
 entry_named description (placed ∷ others) =

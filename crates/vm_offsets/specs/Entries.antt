@@ -1,4 +1,4 @@
--- The table and the entries as the code keeps them: without descriptions.
+-- The table and the entries as the code stores them: without descriptions.
 use Rattle.std.specs.Prelude.{◌≡◌, ℕ, List, [], ◌∷◌, map, Option, None, Some}
 use Rattle.vm_offsets.specs.declared.table.Entry.{Entry}
 use Rattle.vm_offsets.specs.declared.row.Row.{Row as KeptRow}
@@ -26,13 +26,13 @@ pub record IsRow (row : KeptRow) (step : Option ℕ) (count size : ℕ) : Type 0
   pub counted : row.count ≡ count
   pub sized : row.size ≡ size
 
--- where an entry stands: its first byte, its stride and its count
+-- the position of an entry: its first byte, its stride and its count
 abbrev pub kept_extent : Entry → ℕ × ℕ × ℕ
 kept_extent kept = (kept.begin, kept.stride, kept.count)
 
 abbrev pub placed_extent : Placed → ℕ × ℕ × ℕ
 placed_extent placed = (placed.begin, placed.stride, placed.count)
 
--- the entries that are kept stand where those of a layout do
+-- the entries that are kept are at the positions of those of a layout
 abbrev pub KeepsEntries : List Entry → List Placed → Type 0
 KeepsEntries kept placed = map kept_extent kept ≡ map placed_extent placed

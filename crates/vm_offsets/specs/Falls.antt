@@ -1,4 +1,4 @@
--- Regions that are left to give.
+-- Regions that remain for an iterator to return.
 use Rattle.std.specs.Prelude.{ℕ, ◌≤◌, List, [], ◌∷◌, ⊤}
 use Rattle.vm_offsets.specs.Context.{Placed}
 use Rattle.vm_offsets.specs.declared.part.ContextPart.{ContextPart}
@@ -7,7 +7,7 @@ use Rattle.vm_offsets.specs.declared.part.ContextPart.{ContextPart}
 abbrev pub part_entry : ContextPart → Placed
 part_entry part = record { description = part.description.now; begin = part.begin; stride = 0; count = 0 }
 
--- no part begins after the one before it, and the first not after end
+-- no part begins after the one before it, and the first does not begin after `end`
 abbrev pub Falls : ℕ → List ContextPart → Type 0
 Falls end [] = ⊤
 Falls end (part ∷ parts) = (part.begin ≤ end) × Falls part.begin parts

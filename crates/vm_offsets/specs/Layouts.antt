@@ -1,4 +1,4 @@
--- What a layout was made of, and what it says.
+-- The input of a layout, and its results.
 use Rattle.std.specs.Prelude.{ℕ, List}
 use Rattle.vm_structs.specs.declared.pointer.PtrSize.{Ghosts}
 use Rattle.vm_offsets.specs.declared.fields.VMOffsetsFields.{VMOffsetsFields}

@@ -5,7 +5,7 @@ use Rattle.wasm_module.specs.declared.startup.ModuleStartup.TheVariants.{None, A
 use Rattle.wasm_module.specs.Record.{ModuleRecord}
 use Rattle.vm_offsets.specs.declared.fields.VMOffsetsFields.{VMOffsetsFields}
 
--- each space holds what is imported into it
+-- each index space holds what is imported into it
 pub record HoldsImports (m : ModuleRecord) : Type 0 where
   pub functions : m.num_imported_funcs ≤ length m.functions
   pub tables : m.num_imported_tables ≤ length m.tables

@@ -17,7 +17,7 @@ use wasm_index::{
 };
 use wasm_module::FuncRefIndex;
 
-// The places of the entries in the table.
+// The positions of the entries in the table.
 pub(crate) const IMPORTED_MEMORIES: usize = 0;
 
 pub(crate) const MEMORIES: usize = 1;
@@ -47,7 +47,7 @@ pub(crate) const RUNTIME_DATA_BASES: usize = 12;
 pub(crate) const RUNTIME_DATA_LENGTHS: usize = 13;
 
 impl<P: PtrSize> VMOffsets<P> {
-    // The entry at a place in the table.
+    // The entry at a position in the table.
     pub(crate) fn entry(&self, place: usize) -> Entry
         requires { place < 14 }
         ensures { option_map placed_extent (slice_get (entries_of self.now) place) ≡ Some (kept_extent result) }
@@ -55,7 +55,7 @@ impl<P: PtrSize> VMOffsets<P> {
         self.entries[place]
     }
 
-    // The array of the entry at a place in the table.
+    // The array of the entry at a position in the table.
     fn array<I>(&self, place: usize) -> ArrayOffsets<I>
         requires { place < 14 }
         ensures { option_map entry_array (slice_get (entries_of self.now) place) ≡ Some result }

@@ -10,10 +10,10 @@ use wasm_index::Index;
 
 /// An index of an array of a context.
 pub trait VmctxArrayIndex: Copy {
-    /// The place in the array.
+    /// The position in the array.
     ghost array_place: { Self → ℕ };
 
-    /// The place in the array, from 0.
+    /// The position in the array, from 0.
     fn vmctx_array_index(self) -> u32
         ensures { result ≡ array_place self };
 }

@@ -1,4 +1,4 @@
-//! What a layout was made of, and the sizes that follow from the size of pointers.
+//! The input of a layout, and the sizes that follow from the size of pointers.
 
 ghost use Rattle.std.specs.Prelude.{◌≡◌};
 ghost use Rattle.vm_offsets.specs.Layouts.{fields_of, pointer_of, size_of_context};
@@ -120,7 +120,7 @@ impl<P: PtrSize> VMOffsets<P> {
         self.pointer_size()
     }
 
-    /// The bytes of the number of a table's elements.
+    /// The bytes of the count of a table's elements.
     pub fn size_of_vmtable_definition_current_elements(&self) -> u8
         ensures { result ≡ pointer_of self.now }
     {

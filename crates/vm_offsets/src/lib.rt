@@ -2,8 +2,8 @@
 //! bytes.
 //!
 //! Entries are those of one table, in its order. They do not overlap, they end within the context,
-//! and the regions add up to its size. `OffsetOverflow` comes exactly where the size passes 32
-//! bits.
+//! and the regions add up to its size. `OffsetOverflow` is returned exactly where the size passes
+//! 32 bits.
 //!
 //! ```
 //! let offsets = VMOffsets::new(8u8, &translation.module)?;

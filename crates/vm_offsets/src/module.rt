@@ -36,8 +36,8 @@ fn owned_among(memories: &[Memory]) -> usize
 }
 
 impl<P: PtrSize + Drop> VMOffsets<P> {
-    /// The layout of the context of a translated module, whose spaces hold what is imported into
-    /// them. The size of pointers is 4 or 8.
+    /// The layout of the context of a translated module, whose index spaces hold what is imported
+    /// into them. The size of pointers is 4 or 8.
     ///
     /// # Errors
     /// `OffsetOverflow` exactly where the size is past `u32::MAX`.

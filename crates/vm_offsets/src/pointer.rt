@@ -1,10 +1,10 @@
-//! What has a size of pointers.
+//! The trait of values that give a size of pointers.
 
 ghost use Rattle.std.specs.Prelude.{◌≡◌};
 
 use vm_structs::PtrSize;
 
-/// What has a size of pointers.
+/// A value that gives a size of pointers.
 pub trait GetPtrSize {
     /// The type of the size of pointers.
     type Ptr: PtrSize;

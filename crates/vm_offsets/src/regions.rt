@@ -17,8 +17,8 @@ use crate::part::ContextPart;
 use std::marker::Model;
 use vm_structs::PtrSize;
 
-/// Gives the description and the size, in bytes, of each region of a context. A contract sees the
-/// list of those that are left.
+/// Gives the description and the size, in bytes, of each region of a context. A contract views it
+/// as the list of those that remain.
 #[derive(Drop)]
 pub struct RegionSizes {
     parts: [ContextPart; 15],
@@ -55,7 +55,7 @@ impl Iterator for RegionSizes {
 }
 
 impl<P: PtrSize> VMOffsets<P> {
-    // The part that begins with the entry at a place.
+    // The part that begins with the entry at a position.
     fn part(&self, description: &'static str, place: usize) -> ContextPart
         requires { place < 14 }
         ensures description { result.description.now ≡ description.now }
@@ -95,8 +95,8 @@ impl<P: PtrSize> VMOffsets<P> {
     }
 
     /// The regions of the context, the last one first. The region of an entry reaches to the next
-    /// entry, or to the end, so what fills the bytes up to a multiple counts in the region before
-    /// it. What every module has comes last.
+    /// entry, or to the end, so padding counts in the region before it. The part that every module
+    /// has is returned last.
     pub fn region_sizes(&self) -> RegionSizes
         ensures { result ≡ context_regions (pointer_of self.now) (fields_of self.now) }
     {

@@ -4,7 +4,7 @@ ghost use Rattle.std.specs.Prelude.{◌≡◌, ◌<◌, ◌≤◌, ◌+◌, None
 ghost use Rattle.std.specs.Option.{ForSome};
 ghost use Rattle.vm_offsets.specs.Steps.{begin_at};
 
-/// A row of the table: elements of one size. They begin at a multiple of `align` where there is one.
+/// A row of the table: elements of one size. They begin at a multiple of `align` where it is given.
 #[derive(Clone, Copy)]
 pub struct Row {
     pub align: Option<u8>,
@@ -39,7 +39,7 @@ impl Row {
         }
     }
 
-    /// Where the elements of a row begin that stands at a byte.
+    /// Where the elements of a row begin, after the rows before it end at a byte.
     pub fn begin(&self, at: u64) -> u64
         requires { at ≤ u32.MAX }
         ensures value { result ≡ begin_at at self.now.align }

@@ -13,7 +13,7 @@ use vm_structs::offsets::{
     VMMemoryImport, VMTableDefinition, VMTableImport, VMTagDefinition, VMTagImport,
 };
 
-/// An entry at its place.
+/// An entry with its position.
 #[derive(Clone, Copy, Debug)]
 pub struct Entry {
     pub begin: u32,

@@ -6,7 +6,8 @@ ghost use Rattle.vm_offsets.specs.Context.{align, entry, placed_from, end_from, 
 ghost use Rattle.vm_offsets.specs.Regions.{regions_back, context_regions};
 ghost use Rattle.vm_offsets.specs.Examples.{empty_module, linked_program};
 
-/// A table of two entries with a step between them. What the step skips counts in the region of the first.
+/// A table of two entries with an alignment step between them. The bytes that the step skips count
+/// in the region of the first.
 pub fn worked_table()
     ensures first { option_map (λ placed. placed.begin) (entry_named (codes "a")
         (placed_from 48 (entry (codes "a") 3 4 ∷ align 8 ∷ entry (codes "b") 1 8 ∷ []))) ≡ Some 48 }

@@ -14,8 +14,8 @@ pub record Field : Type 0 where
   pub size : ℕ
   pub align : ℕ
 
--- where the field of a name begins, if there is one: a field begins at the least multiple of its
--- alignment that is not before the end of the field before it, here at
+-- where the field with a name begins, if there is one: a field begins at the least multiple of its
+-- alignment that is not before the end of the field before it, which is `at` here
 abbrev pub offset_from : ℕ → List Field → List ℕ → Option ℕ
 offset_from at [] name = None
 offset_from at (field ∷ fields) name =
@@ -35,11 +35,11 @@ greatest_align (field ∷ fields) = max field.align (greatest_align fields)
 
 -- The same of a struct, which is a list of fields at each size of pointers.
 
--- where the field of a name begins, if there is one
+-- where the field with a name begins, if there is one
 abbrev pub offset_of : (ℕ → List Field) → List ℕ → ℕ → Option ℕ
 offset_of struct name pointer = offset_from 0 (struct pointer) name
 
--- where a field of the struct begins that is itself a field of another, from the start of that other one
+-- the offset of a field of an inner struct, from the start of the outer struct that contains it
 abbrev pub inner_offset_of : (ℕ → List Field) → List ℕ → (ℕ → List Field) → List ℕ → ℕ → Option ℕ
 inner_offset_of outer outer_name inner name pointer =
     option_and_then (λ begin. option_map (λ offset. begin + offset) (offset_of inner name pointer)) (offset_of outer outer_name pointer)

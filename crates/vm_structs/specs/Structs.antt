@@ -2,15 +2,15 @@
 use Rattle.std.specs.Prelude.{ℕ, List, [], ◌∷◌, codes}
 use Rattle.vm_structs.specs.Fields.{Field, size_of, align_of}
 
--- a pointer, or a number as wide as one
+-- a pointer, or an integer of the same size
 abbrev pub word : ℕ → List ℕ → Field
 word pointer name = record { name = name; size = pointer; align = pointer }
 
--- a number of 32 bits
+-- a 32-bit integer
 abbrev pub number : List ℕ → Field
 number name = record { name = name; size = 4; align = 4 }
 
--- a number of 64 bits
+-- a 64-bit integer
 abbrev pub wide : List ℕ → Field
 wide name = record { name = name; size = 8; align = 8 }
 
@@ -26,7 +26,7 @@ memory_import pointer = word pointer (codes "from") ∷ word pointer (codes "vmc
 abbrev pub tag_import : ℕ → List Field
 tag_import pointer = word pointer (codes "from") ∷ word pointer (codes "vmctx") ∷ number (codes "index") ∷ []
 
--- a kind is a number of 32 bits and a payload of 32 bits
+-- a kind is a 32-bit integer and a payload of 32 bits
 abbrev pub global_import : ℕ → List Field
 global_import pointer = word pointer (codes "from") ∷ word pointer (codes "vmctx")
     ∷ record { name = codes "kind"; size = 8; align = 4 } ∷ []
@@ -37,7 +37,7 @@ memory_definition pointer = word pointer (codes "base") ∷ word pointer (codes 
 abbrev pub table_definition : ℕ → List Field
 table_definition pointer = word pointer (codes "base") ∷ word pointer (codes "current_elements") ∷ []
 
--- room for the widest value, a vector of 128 bits
+-- space for the widest value, a vector of 128 bits
 abbrev pub global_definition : ℕ → List Field
 global_definition pointer = record { name = codes "storage"; size = 16; align = 16 } ∷ []
 

@@ -26,8 +26,7 @@ pub fn worked_sizes()
     ensures static_context { end_of static_context 8 ∷ end_of static_context 4 ∷ [] ≡ 48 ∷ 24 ∷ [] }
 {}
 
-/// Fields that padding comes before, names that no field has, and the alignment of a struct with
-/// wide numbers.
+/// Fields after padding, names that no field has, and the alignment of a struct with wide numbers.
 pub fn worked_fields()
     ensures after_a_number { offset_of func_ref (codes "vmctx") 8
         ∷ offset_of func_ref (codes "vmctx") 4 ∷ [] ≡ Some 24 ∷ Some 12 ∷ [] }
@@ -45,7 +44,8 @@ pub fn worked_fields()
     ensures narrow { align_of tag_definition 8 ∷ align_of func_ref 4 ∷ [] ≡ 4 ∷ 4 ∷ [] }
 {}
 
-/// The numbers that the runtime and compiled code agree on. A number's lowest byte is written first.
+/// The constants that the runtime and compiled code agree on. A number's lowest byte is written
+/// first.
 pub fn worked_constants()
     ensures slots { NUM_COMPONENT_CONTEXT_SLOTS ≡ 2 }
     ensures context { VMCONTEXT_MAGIC ≡ from_le_bytes w32 (codes "core") }

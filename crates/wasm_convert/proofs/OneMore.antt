@@ -1,4 +1,4 @@
--- What a list with one item more gives.
+-- Facts of a list with one more item.
 use Rattle.std.proofs.Common.{◌≡◌, ◌∙◌, ◌<◌, ◌+◌, ℕ, suc, List, [], ◌∷◌, ◌++◌, length, map, take, Option, Some, None, refl, ap, sym, get_or, arith}
 use Rattle.std.proofs.Math.Seq.{take-suc}
 use Rattle.std.proofs.lemmas.List.{map-append}
@@ -9,7 +9,7 @@ use Rattle.std.specs.Option.{option_to_list}
 take-more : {X : Type 0} (xs : List X) (n : ℕ) (d : X) → n < length xs → take (n + 1) xs ≡ take n xs ++ get_or xs n d ∷ []
 take-more xs n d lt = let one : n + 1 ≡ suc n = omega arith in rw one (take-suc xs n d lt)
 
--- items that are converted one by one, as a copy `xs'` of the list gives them
+-- items that are converted one by one, given as a copy `xs'` of the list
 pub map-more : {X Y : Type 0} (f : X → Y) {xs xs' : List X} (n : ℕ) (d : X) {ys zs : List Y} {y : Y} → xs' ≡ xs → n < length xs'
     → ys ≡ map f (take n xs) → zs ≡ ys ++ y ∷ [] → y ≡ f (get_or xs' n d) → zs ≡ map f (take (n + 1) xs)
 map-more f {xs} {xs'} n d {ys} {zs} {y} same lt before more last =
@@ -20,7 +20,7 @@ filter_map-one : {X Y : Type 0} (f : X → Option Y) (x : X) (gives : Option Y) 
 filter_map-one f x None is = rw is refl
 filter_map-one f x (Some y) is = rw is refl
 
--- what is gathered from them one by one
+-- what is collected from them one by one
 pub filter_map-more : {X Y : Type 0} (f : X → Option Y) {xs xs' : List X} (n : ℕ) (d : X) {ys zs : List Y} → xs' ≡ xs → n < length xs'
     → ys ≡ filter_map f (take n xs) → zs ≡ ys ++ option_to_list (f (get_or xs' n d)) → zs ≡ filter_map f (take (n + 1) xs)
 filter_map-more f {xs} {xs'} n d same lt before more =

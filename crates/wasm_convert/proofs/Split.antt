@@ -1,4 +1,4 @@
--- The items of two lists, one after the other, and each converted: the parts at the seam.
+-- The items of two concatenated lists, each converted: the parts where the lists join.
 use Rattle.std.proofs.Common.{◌≡◌, ◌∙◌, List, ◌++◌, length, map, take, drop, refl, sym, ap}
 use Rattle.std.proofs.lemmas.List.{map-append, length-map, take-map, drop-map}
 use Rattle.type_data.specs.ListLaws.{map-twice}
@@ -13,7 +13,7 @@ module _ {A B : Type 0} (f : A → B) (ps rs : List A) where
   second-converted = ap (drop (length ps)) (map-append f ps rs) ∙ ap (λ n. drop n (map f ps ++ map f rs)) (sym (length-map ps f))
       ∙ drop-append_seam (map f ps) (map f rs)
 
--- two lists of parts, one after the other, of which each was converted
+-- two concatenated lists of parts, of which each was converted
 module _ {A B C D : Type 0} (made : D → C) (f : B → C) (view : A → B) (ps rs : List A) (ys : List D)
     (is : map made ys ≡ map (λ x. f (view x)) (ps ++ rs)) where
   pub first-part : map made (take (length ps) ys) ≡ map f (map view ps)

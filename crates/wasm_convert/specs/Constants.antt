@@ -1,5 +1,5 @@
--- Constant expressions of a translated module (core specification, 5.4, instructions): where they
--- come from, and their values.
+-- Constant expressions of a translated module (core specification, 5.4, instructions): how they are
+-- converted from those that were read, and their values.
 use Rattle.std.specs.Prelude.{◌≡◌, List, [], ◌∷◌, map, Option, Some, None, pos}
 use Rattle.std.specs.Int.{cast_unsigned, w32, w64}
 use Rattle.std.specs.List.{filter_map}
@@ -34,7 +34,7 @@ functions_of e = filter_map function_in e
 abbrev pub expression_of : List ConstOp → Expression
 expression_of e = map operator_of e
 
--- a value that is known before any code runs: integers are kept signed
+-- a value that is known before any code runs: integers are stored signed
 abbrev pub plain_value_of : GlobalConstValue → Value
 plain_value_of (value.I32 n) = I32 (cast_unsigned w32 n)
 plain_value_of (value.I64 n) = I64 (cast_unsigned w64 n)
@@ -42,7 +42,7 @@ plain_value_of (value.F32 bits) = F32 bits
 plain_value_of (value.F64 bits) = F64 bits
 plain_value_of (value.V128 bits) = V128 bits
 
--- one `i32.const` of another number than 0
+-- one `i32.const` of a number other than 0
 abbrev pub IsNonzeroI32 : List ConstOp → Type 0
 IsNonzeroI32 (ops.I32Const n ∷ []) = n ≡ pos 0 → ⊥
 IsNonzeroI32 _ = ⊥

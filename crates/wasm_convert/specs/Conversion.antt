@@ -1,5 +1,5 @@
--- Types that were read become types of a translated module (core specification, 2.3): each index
--- becomes what it is looked up to, and all else stays. So conversion is the one `map` of types as
+-- Types that were read become types of a translated module (core specification, 2.3): each index is
+-- looked up, and all else stays. So conversion is the one `map` of types as data, by a look-up.
 -- data, by a look-up.
 use Rattle.std.specs.Prelude.{if◌then◌else◌}
 use Rattle.wasm_spec.specs.declared.types.UnpackedIndex.{UnpackedIndex}
@@ -14,14 +14,14 @@ use Rattle.wasm_types.specs.EntityData.{GlobalData, TableData}
 use Rattle.wasm_types.specs.ValueViews.{Name}
 use Rattle.wasm_types.specs.ViewsTell.{heap_from}
 
--- what an index is looked up to: the kind of the type that it names, and its index
+-- the result of looking up an index: the kind of the type that it names, and its index
 abbrev pub LookUp : Type 0
 LookUp = UnpackedIndex → Name
 
 abbrev pub index_in : LookUp → UnpackedIndex → EngineOrModuleTypeIndex
 index_in look i = (look i).index
 
--- the heap type that is this data, its index looked up
+-- the heap type that this data represents, with its index looked up
 abbrev pub heap_type_of : LookUp → HeapType → WasmHeapType
 heap_type_of look h = heap_from (map_heap look (heap_of h))
 

@@ -4,6 +4,6 @@ use Rattle.replay_spec.specs.Values.{Value}
 use Rattle.wasm_convert.specs.declared.evaluation.Stack.{Stack}
 use Rattle.wasm_convert.specs.Constants.{plain_value_of}
 
--- the values that stand, the last on top
+-- the values on the stack, the last on top
 abbrev pub plain_stack : Stack → List Value
 plain_stack stack = map plain_value_of stack.values.items

@@ -8,13 +8,13 @@ use Rattle.type_data.specs.Names.{FuncName}
 use Rattle.wasm_convert.specs.Conversion.{LookUp}
 
 module _ (known : UnpackedIndex → Type 0) where
-  -- an index that is known, and that is not a place in a group
+  -- an index that is known, and that is not an index into a group
   abbrev pub CanLookUp : UnpackedIndex → Type 0
   CanLookUp (index.Module i) = known (index.Module i)
   CanLookUp (index.Id i) = known (index.Id i)
   CanLookUp (index.RecGroup i) = ⊥
 
-  -- all edges of a type are so
+  -- all edges of a type are known and not into a group
   abbrev pub Known : List UnpackedIndex → Type 0
   Known edges = All CanLookUp edges
 

@@ -15,7 +15,7 @@ use Rattle.replay_spec.specs.Values.{Value, action, is_plain}
 use Rattle.wasm_convert.specs.Conversion.{LookUp, heap_type_of}
 use Rattle.wasm_convert.specs.Known.{KnowsHeap}
 
--- an operator that was read, with its indices as those of their lists and its heap type converted
+-- an operator that was read, with its indices typed by their lists and its heap type converted
 module _ (look : LookUp) where
   abbrev pub const_op_of : Operator → ConstOp
   const_op_of (plain.I32Const value) = ops.I32Const value
@@ -41,7 +41,7 @@ module _ (look : LookUp) where
   const_op_of plain.ExternConvertAny = ops.ExternConvertAny
   const_op_of plain.AnyConvertExtern = ops.AnyConvertExtern
 
--- back again; of a null reference the heap type is lost
+-- the inverse; of a null reference the heap type is lost
 abbrev pub operator_of : ConstOp → Operator
 operator_of (ops.I32Const value) = plain.I32Const value
 operator_of (ops.I64Const value) = plain.I64Const value
@@ -108,7 +108,7 @@ operands_of (ops.ArrayNewDefault type) = operand.Index (number_of type)
 operands_of (ops.ArrayNewFixed type size) = operand.IndexAndSize (number_of type) size
 operands_of _ = operand.None
 
--- an operator by its place in the enumeration
+-- an operator by its position in the enumeration
 abbrev pub place_of_operator : ConstOp → ℕ
 place_of_operator (ops.I32Const n) = 0
 place_of_operator (ops.I64Const n) = 1
@@ -133,8 +133,8 @@ place_of_operator (ops.ArrayNewFixed t size) = 19
 place_of_operator ops.ExternConvertAny = 20
 place_of_operator ops.AnyConvertExtern = 21
 
--- what a constant, a sum, a difference or a product makes of values, as many as it takes; none of
--- another operator
+-- the result of a constant, a sum, a difference or a product, from as many values as it pops; none
+-- for another operator
 abbrev pub plain_result : ConstOp → List Value → Option Value
 plain_result op taken = let a = action [] (λ t. 0) (operator_of op) in
     if is_plain (operator_of op) then (if nat_eq (length taken) a.takes then a.makes taken else None) else None

@@ -18,13 +18,14 @@ use std::marker::Model;
 use wasm_index::FuncIndex;
 use wasm_spec::Operator;
 
-/// A constant expression: its operators, of which there is at least one. Two are kept without an allocation.
+/// A constant expression: its operators, of which there is at least one. Two are stored without an
+/// allocation.
 #[derive(Drop)]
 pub struct ConstExpr {
     ops: SmallVec<ConstOp, 2>,
 }
 
-/// A contract sees the list of the operators.
+/// A contract views it as the list of the operators.
 impl Model for ConstExpr {
     ghost use Rattle.std.specs.Prelude.{List, ◌<◌, length};
     ghost use Rattle.wasm_convert.specs.declared.operators.ConstOp.{ConstOp};
@@ -48,7 +49,7 @@ fn push_function(escaped: &mut SmallVec<FuncIndex, 1>, op: &Operator) -> Result<
     Ok(())
 }
 
-// The value that operators leave alone on an empty stack.
+// The value that operators leave alone on an initially empty stack.
 fn evaluated(ops: &[ConstOp]) -> Option<GlobalConstValue>
     ensures { option_map plain_value_of result ≡ const_value (expression_of ops.now) }
 {
@@ -74,9 +75,9 @@ impl ConstExpr {
         })
     }
 
-    /// The expression that was read, each operator converted, and the functions to which it makes references,
-    /// in order: those escape. Of the expression each heap type must be known, and each index below
-    /// `u32::MAX`.
+    /// The expression that was read, with each operator converted, and the functions to which it
+    /// makes references, in order: those escape. Each heap type in the expression must be known,
+    /// and each index must be below `u32::MAX`.
     ///
     /// # Errors
     /// `OutOfMemory`, only for more than two operators or more than one function.
@@ -108,8 +109,9 @@ impl ConstExpr {
         self.ops.as_slice()
     }
 
-    /// The value of the expression where its operators are constants, sums, differences and products, at most
-    /// 16 values stand at any point, and one remains (core specification, 4.6, instructions). Integers wrap.
+    /// The value of the expression where its operators are constants, sums, differences and
+    /// products, at most 16 values are on the stack at any point, and one remains (core
+    /// specification, 4.6, instructions). Integers wrap.
     #[inline(always)]
     pub fn const_eval(&self) -> Option<GlobalConstValue>
         ensures { option_map plain_value_of result ≡ const_value (expression_of self.now) }
@@ -122,7 +124,7 @@ impl ConstExpr {
         }
     }
 
-    /// Whether the expression is one `i32.const` of another number than 0.
+    /// Whether the expression is one `i32.const` of a number other than 0.
     pub fn provably_nonzero_i32(&self) -> bool
         ensures { IsTrue result ↔ IsNonzeroI32 self.now }
     {

@@ -1,4 +1,4 @@
-//! The trait of what knows the types that indices name.
+//! The trait of a look-up of the types that indices name.
 
 ghost use Rattle.std.specs.Prelude.{◌≡◌, IfOk, map};
 ghost use Rattle.wasm_spec.specs.declared.types.UnpackedIndex.{UnpackedIndex};
@@ -28,14 +28,15 @@ use wasm_types::{
     WasmHeapType, WasmRefType, WasmStorageType, WasmStructType, WasmSubType, WasmValType,
 };
 
-/// What knows the types that indices name, and so converts types that were read into those of a
-/// translated module.
-/// Of a type that is converted each index must be known, and none may be a place in a group.
+/// A look-up of the types that indices name. It converts types that were read into those of a
+/// translated module. Each index in a type that is converted must be known, and none may be an
+/// index into a group.
 pub trait TypeConvert {
     /// The indices that it knows.
     ghost knows: { Self → UnpackedIndex → Type 0 };
 
-    /// What an index is looked up to: the kind of the type that it names, and the index of that type.
+    /// The result of looking up an index: the kind of the type that it names, and the index of that
+    /// type.
     ghost look_up: { Self → LookUp };
 
     /// The global of a global type.

@@ -11,17 +11,17 @@ use crate::operators::ConstOp;
 use crate::values::GlobalConstValue;
 use arrayvec::ArrayVec;
 
-// How many values may stand at any point.
+// How many values may be on the stack at any point.
 const MOST_VALUES: usize = 16;
 
-/// The values that stand, the last on top.
+/// The values on the stack, the last on top.
 #[derive(Drop)]
 pub struct Stack {
     values: ArrayVec<GlobalConstValue, MOST_VALUES>,
 }
 
 impl Stack {
-    /// No value stands.
+    /// The empty stack.
     pub fn new() -> Self
         ensures { plain_stack result ≡ [] }
     {
@@ -30,14 +30,14 @@ impl Stack {
         }
     }
 
-    // Puts a value on top, where there is room for it.
+    // Pushes a value, where there is capacity for it.
     fn push(&mut self, value: GlobalConstValue) -> Option<()>
         ensures { option_map (λ done. plain_stack self.new) result ≡ within_16 (plain_stack self.old ++ plain_value_of value ∷ []) }
     {
         self.values.try_push(value).ok()
     }
 
-    // What a constant or arithmetic makes of the values on top, which it takes.
+    // The result of a constant or arithmetic operator on the values on top, which it pops.
     fn made(&mut self, op: &ConstOp) -> Option<GlobalConstValue>
         ensures { option_map (λ v. plain_stack self.new ++ plain_value_of v ∷ []) result
             ≡ (if is_plain (operator_of op.now) then acted (action [] (λ t. 0) (operator_of op.now)) (plain_stack self.old) else None) }
@@ -50,8 +50,8 @@ impl Stack {
         op.joined(first, second)
     }
 
-    /// What the operator leaves, where it is a constant or arithmetic that finds its values, and
-    /// there is room.
+    /// Applies the operator, where it is a constant or arithmetic that finds its values, and the
+    /// stack has capacity for the result.
     pub fn apply(&mut self, op: ConstOp) -> Option<()>
         ensures { option_map (λ done. plain_stack self.new) result ≡ plain_step (operator_of op) (plain_stack self.old) }
     {
@@ -59,7 +59,7 @@ impl Stack {
         self.push(value)
     }
 
-    /// The value that stands alone.
+    /// The value that is alone on the stack.
     pub fn only(&self) -> Option<GlobalConstValue>
         ensures { option_map plain_value_of result ≡ only_value (plain_stack self.now) }
     {

@@ -1,11 +1,11 @@
-//! What an operator of a constant expression is followed by.
+//! The operands of the operators of a constant expression.
 
 use wasm_types::WasmHeapType;
 
-/// The operands of an operator of a constant expression, by what they are.
+/// The operands of an operator of a constant expression, by their kind.
 #[derive(Clone, Copy, Debug)]
 pub enum Operands {
-    /// There are none.
+    /// No operands.
     None,
     /// An integer of 32 bits.
     I32(i32),
@@ -21,6 +21,6 @@ pub enum Operands {
     Index(u32),
     /// A heap type.
     Heap(WasmHeapType),
-    /// The index of a type, and how many elements there are.
+    /// The index of a type, and the number of elements.
     IndexAndSize { index: u32, size: u32 },
 }

@@ -18,7 +18,7 @@ use wasm_spec::{AbstractHeapType, HeapType, Operator};
 use wasm_types::WasmHeapType;
 
 /// An operator of a constant expression (core specification, 3.4, constant expressions). Floats and
-/// vectors are their bits.
+/// vectors are stored as their bits.
 #[derive(Clone, Copy, Debug, PartialEq, Eq, Hash)]
 pub enum ConstOp {
     I32Const(i32),
@@ -56,7 +56,7 @@ pub enum ConstOp {
     AnyConvertExtern,
 }
 
-/// The constant 0, which fills the unused room of a short list.
+/// The constant 0, which fills the unused capacity of a short list.
 impl Default for ConstOp {
     ghost is_default = { λ op. op ≡ I32Const (pos 0) };
 
@@ -230,7 +230,7 @@ impl ConstOp {
         }
     }
 
-    /// Its place in the enumeration, from 0.
+    /// Its position in the enumeration, from 0.
     pub fn number(&self) -> u8
         ensures { result ≡ place_of_operator self.now }
     {
@@ -260,7 +260,8 @@ impl ConstOp {
         }
     }
 
-    /// How many values it takes from the stack; of `struct.new` the fields of its type are not counted.
+    /// How many values it pops from the stack; for `struct.new` the fields of its type are not
+    /// counted.
     pub fn takes(&self) -> usize
         ensures { result ≡ (action [] (λ t. 0) (operator_of self.now)).takes }
     {
@@ -281,7 +282,7 @@ impl ConstOp {
         }
     }
 
-    /// The value of a constant; none of another operator.
+    /// The value of a constant; none for another operator.
     pub fn constant(&self) -> Option<GlobalConstValue>
         ensures { option_map plain_value_of result ≡ plain_result self.now [] }
     {
@@ -295,7 +296,7 @@ impl ConstOp {
         }
     }
 
-    /// What a sum, a difference or a product makes of two values; none of another operator or of
+    /// The result of a sum, a difference or a product of two values; none for another operator or
     /// other values.
     pub fn joined(
         &self,

@@ -3,7 +3,8 @@
 ghost use Rattle.std.specs.Prelude.{◌≡◌, pos};
 ghost use Rattle.wasm_convert.specs.declared.values.GlobalConstValue.TheVariants.{I32};
 
-/// The value of a global that is known before any code runs. Floats and vectors are their bits.
+/// The value of a global that is known before any code runs. Floats and vectors are stored as their
+/// bits.
 #[derive(Clone, Copy, Debug)]
 pub enum GlobalConstValue {
     I32(i32),
@@ -13,7 +14,7 @@ pub enum GlobalConstValue {
     V128(u128),
 }
 
-/// The constant 0, which fills the unused room of a stack.
+/// The constant 0, which fills the unused capacity of a stack.
 impl Default for GlobalConstValue {
     ghost is_default = { λ value. value ≡ I32 (pos 0) };
 

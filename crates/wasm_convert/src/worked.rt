@@ -23,7 +23,7 @@ use wasm_types::{
     EngineOrModuleTypeIndex, IndexType, WasmCompositeInnerType, WasmHeapType, WasmStorageType,
 };
 
-/// Types over a look-up that takes each index to the function type 7.
+/// Types over a look-up that maps each index to the function type 7.
 pub fn worked_conversions()
     ensures reference { map_reference (λ i. record { kind = FuncName; index = EngineOrModuleTypeIndex.Module (index_of 7) })
         (read.reference_of (record { nullable = false; heap = HeapType.Concrete (UnpackedIndex.Module 3) }))

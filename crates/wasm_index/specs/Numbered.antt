@@ -1,4 +1,4 @@
--- What a contract sees of an index.
+-- How a contract views an index.
 use Rattle.std.specs.Prelude.{ℕ}
 
 -- a number in the list that `Space` names

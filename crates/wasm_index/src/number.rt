@@ -1,4 +1,4 @@
-//! The number of an index, in four bytes that may stand at any place of the memory.
+//! The number of an index, in four bytes that need no alignment.
 
 ghost use Rattle.std.specs.Prelude.{◌≡◌, ◌<◌, ℕ, length, get_or, nat_eq, refl, Some};
 ghost use Rattle.std.specs.Ordering.{nat_cmp};
@@ -42,7 +42,7 @@ impl Number {
         }
     }
 
-    /// Its value.
+    /// The value of the number.
     #[inline(always)]
     pub fn get(self) -> u32
         ensures { result ≡ self }

@@ -9,7 +9,7 @@ use Rattle.wasm_types.specs.declared.entity.EntityType.{EntityType}
 use Rattle.wasm_types.specs.declared.entity.EntityType.TheVariants as type
 use Rattle.wasm_module.specs.Record.{ModuleRecord}
 
--- the number of an entity in the space of its kind
+-- the index of an entity in the index space of its kind
 abbrev pub entity_number : EntityIndex → ℕ
 entity_number (index.Function i) = number_of i
 entity_number (index.Table i) = number_of i

@@ -16,7 +16,7 @@ use Rattle.wasm_module.specs.Entities.{entity_type, IsImported}
 abbrev pub text_of : ModuleRecord → Atom → Option (List ℕ)
 text_of m atom = slice_get m.strings (atom_number atom)
 
--- the entity that is imported
+-- the entity that an import imports
 abbrev pub imported_entity : Initializer → EntityIndex
 imported_entity (initializer.Import name field index) = index
 
@@ -24,7 +24,8 @@ imported_entity (initializer.Import name field index) = index
 abbrev pub IsResolved : ModuleRecord → Initializer → Type 0
 IsResolved m (initializer.Import name field index) = IsSome (text_of m name) × IsSome (text_of m field) × IsSome (entity_type m index)
 
--- the name of the module from which it comes, its own name, and its type; none where one of these is missing
+-- the name of the module that it is imported from, its own name, and its type; none where one of
+-- these is missing
 abbrev pub import_of : ModuleRecord → Initializer → Option (List ℕ × List ℕ × EntityType)
 import_of m (initializer.Import name field index) =
     option_and_then (λ from. option_and_then (λ own. option_map (λ ty. (from, own, ty)) (entity_type m index)) (text_of m field)) (text_of m name)
@@ -33,15 +34,15 @@ import_of m (initializer.Import name field index) =
 abbrev pub imports_of : ModuleRecord → List Initializer → List (List ℕ × List ℕ × EntityType)
 imports_of m initializers = filter_map (import_of m) initializers
 
--- an import as it is lent
+-- an import as it is borrowed
 abbrev pub lent_import : Bor (List ℕ) × Bor (List ℕ) × EntityType → List ℕ × List ℕ × EntityType
 lent_import import = (import.0.now, import.1.now, import.2)
 
--- the entity that the import at a place brings, if there is one
+-- the entity that the import at a position imports, if there is one
 abbrev pub entity_at : ModuleRecord → ℕ → Option EntityIndex
 entity_at m at = option_map imported_entity (slice_get m.initializers at)
 
--- the first import of the entity stands at the place, and there is none where it has no place
+-- the position holds the first import of the entity; without a position there is no such import
 abbrev pub IsFirstImport : ModuleRecord → EntityIndex → Option ℕ → Type 0
 IsFirstImport m e (Some at) = IsImported m e × (entity_at m at ≡ Some e) × ((before : ℕ) → before < at → entity_at m before ≢ Some e)
 IsFirstImport m e None = IsImported m e → (at : ℕ) → entity_at m at ≢ Some e

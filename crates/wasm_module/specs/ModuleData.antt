@@ -1,5 +1,5 @@
--- Functions, startups and modules as data over the types that they name. `H` stands at a concrete
--- heap type, and `R` wherever else a type is named.
+-- Functions, startups and modules as data over the types that they name. `H` is the reference in a
+-- concrete heap type, and `R` every other reference to a type.
 use Rattle.std.specs.Prelude.{List, [], map}
 use Rattle.wasm_index.specs.declared.index.Index.{Index}
 use Rattle.wasm_types.specs.declared.index.EngineOrModuleTypeIndex.{EngineOrModuleTypeIndex}
@@ -13,7 +13,7 @@ use Rattle.wasm_module.specs.declared.startup.ModuleStartup.TheVariants as start
 use Rattle.wasm_module.specs.declared.module.Module.{Module}
 
 module _ (R : Type 0) where
-  -- a function: its type, and its number among those that escape
+  -- a function: its type, and its number among the functions that escape
   pub record FunctionData : Type 0 where
     pub signature : R
     pub func_ref : Index FuncRefSpace
@@ -28,7 +28,7 @@ abbrev pub ModuleData : Type 0 → Type 0 → Type 0
 ModuleData H R =
     List R × (List (FunctionData R) × (List (TableData H) × (List (GlobalData H) × (List (TagData R) × (StartupData R × Module)))))
 
--- ---- what the record holds, as such data
+-- ---- the content of the record, as such data
 
 abbrev pub type_of_space : EngineOrModuleTypeIndex → EngineOrModuleTypeIndex
 type_of_space index = index
@@ -41,7 +41,7 @@ startup_of startup.None = NoStartup
 startup_of (startup.Always type) = AlwaysStarts type
 startup_of (startup.IfMemoriesNeedInit type) = StartsForMemories type
 
--- all of a module but the types that it names; the types of passive elements are not among those
+-- all of a module except the types that it names; the types of passive elements are not among those
 abbrev pub rest_of : Module → Module
 rest_of m = record m { types = []; functions = []; tables = []; globals = []; tags = []; startup = startup.None }
 

@@ -1,4 +1,4 @@
--- The laws of functions, startups and modules as data: each has a shape, and a way back from its view.
+-- The laws of functions, startups and modules as data: each has a shape, and its view an inverse.
 use Rattle.std.specs.Prelude.{List, [], ◌∷◌, ◌++◌, map}
 use Rattle.std.proofs.Common.{◌≡◌, refl, ap}
 use Rattle.type_data.specs.Names.{alone-determined}
@@ -82,7 +82,7 @@ startup_shape = record {
   determined = λ kind index tells x y frames all. startup-determined x y frames all;
 }
 
--- two parts, the edges of one before those of the other
+-- two parts, the edges of one before the edges of the other
 abbrev pub both_shape : {T U : Type 0 → Type 0 → Type 0} → Shape T → Shape U → Shape (λ H R. T H R × U H R)
 both_shape s u = record {
   map = λ h f x. (s.map h f x.0, u.map h f x.1);
@@ -98,7 +98,7 @@ both_shape s u = record {
       λ i. (first i, second i);
 }
 
--- what has no references beside it
+-- a part with another that has no references
 abbrev pub beside_shape : {T : Type 0 → Type 0 → Type 0} (A : Type 0) → Shape T → Shape (λ H R. T H R × A)
 beside_shape A s = record {
   map = λ h f x. (s.map h f x.0, x.1);
@@ -118,7 +118,7 @@ module_shape =
     both_shape (listed alone_shape) (both_shape (listed function_shape) (both_shape (listed table_shape)
     (both_shape (listed global_shape) (both_shape (listed tag_shape) (beside_shape Module startup_shape)))))
 
--- ---- ways back
+-- ---- inverses
 
 pub function_back : Back function_of
 function_back = record { back = λ x. record { signature = x.signature; func_ref = x.func_ref }; is = λ x. refl }

@@ -21,7 +21,7 @@ use Rattle.wasm_module.specs.declared.startup.ModuleStartup.{ModuleStartup}
 use Rattle.wasm_module.specs.declared.startup.ModuleStartup.TheVariants as startup
 use Rattle.wasm_module.specs.declared.module.Module.{Module}
 
--- a module: its texts, lists and counts, under the names of its fields
+-- a module: its texts, lists and counts, named as its fields
 pub record ModuleRecord : Type 0 where
   pub module_index : Index StaticModuleSpace
   pub strings : List (List ℕ)

@@ -1,5 +1,5 @@
 -- The index spaces of functions, tables, memories, globals and tags (core specification, 2.5,
--- indices): in each the imported entities stand first, and the defined ones follow.
+-- indices): in each the imported entities are first, and the defined ones follow.
 use Rattle.std.specs.Prelude.{◌≡◌, ℕ, ◌+◌, ◌-◌, ◌<◌, nat_lt, List, map, Option, Some, None, if◌then◌else◌}
 use Rattle.std.specs.List.{range_with_len}
 use Rattle.wasm_index.specs.Index.{number_of, index_of}

@@ -1,4 +1,4 @@
-//! The functions that a module defines, one after another.
+//! The functions that a module defines, in order.
 
 ghost use Rattle.std.specs.Prelude.{◌≡◌, ◌≤◌, ◌-◌, length};
 ghost use Rattle.std.specs.Iterator.{YieldsFirst, item_count};

@@ -1,4 +1,4 @@
-//! The entities of a module: which there are, which are imported, and which are exported.
+//! The entities of a module: which ones exist, which are imported, and which are exported.
 
 ghost use Rattle.std.specs.Prelude.{◌≡◌, ◌↔◌, ◌<◌, ◌≤◌, ◌-◌, length, Some, IsTrue, IsSome};
 ghost use Rattle.wasm_module.specs.Entities.{entity_type, IsImported, IsExported};

@@ -7,7 +7,7 @@ use entity_map::ReservedValue;
 use wasm_index::Index;
 use wasm_types::EngineOrModuleTypeIndex;
 
-/// The functions of a module to which references are made, in the order of the first cause.
+/// The functions of a module to which references are made, in the order of the first use.
 pub enum FuncRefSpace {}
 
 /// An index into [`FuncRefSpace`].

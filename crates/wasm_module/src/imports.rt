@@ -11,8 +11,8 @@ use crate::module::Module;
 use std::marker::Model;
 use wasm_types::{EntityIndex, EntityType};
 
-/// The imports of a module, in order: the name of the module from which each comes, its own name,
-/// and its type.
+/// The imports of a module, in order: the name of the module that each is imported from, its own
+/// name, and its type.
 #[derive(Drop)]
 pub struct Imports<'a> {
     module: &'a Module,
@@ -47,7 +47,7 @@ impl<'a> Iterator for Imports<'a> {
 }
 
 impl Module {
-    /// The imports, in order. The names of each must be in the pool, and its entity one of the module.
+    /// The imports, in order. The names of each must be in the pool, and its entity in the module.
     pub fn imports(&self) -> Imports<'_>
         requires { All (IsResolved (record_of self.now)) (record_of self.now).initializers }
         ensures { result ≡ imports_of (record_of self.now) (record_of self.now).initializers }
@@ -58,8 +58,8 @@ impl Module {
         }
     }
 
-    /// The import at a place: the name of the module from which it comes, its own name, and its type.
-    /// Its names must be in the pool, and its entity one of the module.
+    /// The import at a position: the name of the module that it is imported from, its own name, and
+    /// its type. Its names must be in the pool, and its entity in the module.
     pub fn import(&self, i: usize) -> Option<(&str, &str, EntityType)>
         requires { IfSome (slice_get (record_of self.now).initializers i) (IsResolved (record_of self.now)) }
         ensures { option_map lent_import result
@@ -82,7 +82,7 @@ impl Module {
         )
     }
 
-    /// The entity that the import at a place brings.
+    /// The entity that the import at a position imports.
     pub fn import_index(&self, i: usize) -> Option<EntityIndex>
         ensures { result ≡ entity_at (record_of self.now) i }
     {
@@ -90,9 +90,9 @@ impl Module {
         Some(*index)
     }
 
-    /// The place of the first import that is an entity, which is none exactly where the entity is
-    /// not imported or no import is it.
-    /// Of an imported entity this goes through the imports up to that place.
+    /// The position of the first import of an entity. It is none exactly where the entity is not
+    /// imported or no import names it. For an imported entity this visits the imports up to that
+    /// position.
     pub fn import_position(&self, e: EntityIndex) -> Option<usize>
         ensures { IsFirstImport (record_of self.now) e result }
     {

@@ -96,7 +96,8 @@ impl Module {
         among_defined(self.num_imported_memories, i)
     }
 
-    /// The index of a defined memory among those that are not shared: how many of these stand before it.
+    /// The index of a defined memory among those that are not shared: how many of these are before
+    /// it.
     pub fn owned_memory_index(&self, i: DefinedMemoryIndex) -> OwnedMemoryIndex
         requires { self.now.num_imported_memories + number_of i < length self.now.memories }
         ensures { number_of result ≡ owned_memories (record_of self.now) (number_of i) }

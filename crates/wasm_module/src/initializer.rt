@@ -1,4 +1,4 @@
-//! What a module is given when it is instantiated.
+//! The steps that give a module its imports at instantiation.
 
 use entity_map::Atom;
 use wasm_types::EntityIndex;
@@ -8,11 +8,11 @@ use wasm_types::EntityIndex;
 pub enum Initializer {
     /// An import (core specification, 2.5, imports).
     Import {
-        /// The name of the module from which it comes.
+        /// The name of the module that it is imported from.
         name: Atom,
         /// Its own name there.
         field: Atom,
-        /// The entity that it brings.
+        /// The entity that it imports.
         index: EntityIndex,
     },
 }

@@ -1,8 +1,8 @@
 //! The record of a translated module, for the translation that fills it and for compilers that read
 //! it.
 //!
-//! A contract sees the record as one plain value. Index conversions between an index space and its
-//! defined part are exact, and imports come first in each space.
+//! A contract views the record as one plain value. Index conversions between an index space and its
+//! defined part are exact, and imports are first in each space.
 //!
 //! ```
 //! let mut module = Module::new(alloc, StaticModuleIndex::new(0))?;
@@ -12,10 +12,10 @@
 //! ```
 //!
 //! Conversions of indices take constant time, except `owned_memory_index`, which counts the
-//! memories before. `import_position` goes through the imports up to the one it finds.
+//! memories before. `import_position` visits the imports up to the one it finds.
 //!
-//! Read on: `module` has the fields; `module_environ` fills them, `init_plan` plans how memories
-//! and tables begin.
+//! Read on: `module` has the fields; `module_environ` fills them, `init_plan` plans the initial
+//! content of memories and tables.
 #![tactic(auto)]
 
 mod defined;

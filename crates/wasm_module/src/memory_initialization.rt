@@ -1,4 +1,4 @@
-//! How the memories of a module begin.
+//! The initial content of a module's memories.
 
 ghost use Rattle.std.specs.Prelude.{◌≡◌, ◌↔◌, IsTrue};
 ghost use Rattle.wasm_module.specs.declared.memory_initialization.MemoryInitialization.TheVariants.{Segmented};
@@ -7,14 +7,15 @@ use entity_map::PrimaryMap;
 use wasm_convert::ConstExpr;
 use wasm_index::{MemoryIndex, RuntimeDataIndex};
 
-/// How the memories of a module begin.
+/// The initial content of a module's memories.
 #[derive(Drop)]
 pub enum MemoryInitialization {
     /// Every segment is written when the module is instantiated.
     Segmented,
-    /// The memories begin as images; no segment is left to be written.
+    /// The memories begin as images; no segment remains to be written.
     Static {
-        /// The place of each memory's image in the memory, in bytes, and the runtime data that holds it.
+        /// The offset of each memory's image in the memory, in bytes, and the runtime data that
+        /// holds it.
         map: PrimaryMap<MemoryIndex, Option<(u64, RuntimeDataIndex)>>,
     },
 }
@@ -28,7 +29,7 @@ impl MemoryInitialization {
     }
 }
 
-/// Segments are left to be written.
+/// Segments remain to be written.
 impl Default for MemoryInitialization {
     ghost is_default = { λ initialization. initialization ≡ Segmented };
 
@@ -41,7 +42,7 @@ impl Default for MemoryInitialization {
 #[derive(Drop)]
 pub struct MemoryInitializer<'a> {
     pub memory_index: MemoryIndex,
-    /// Where in the memory it begins.
+    /// The offset in the memory where it begins.
     pub offset: ConstExpr,
     pub bytes: &'a [u8],
 }

@@ -1,4 +1,4 @@
-//! The record, and the calls that let it grow.
+//! The record, and the methods that extend it.
 
 ghost use Rattle.std.specs.Prelude.{◌≡◌, ◌<◌, ◌-◌, ◌++◌, ◌∷◌, [], length, IfOk, OnOk, OnErr};
 ghost use Rattle.wasm_index.specs.Index.{index_of};
@@ -20,10 +20,10 @@ use wasm_index::{
 use wasm_types::{EngineOrModuleTypeIndex, EntityIndex, Global, Memory, Table, Tag, WasmRefType};
 
 /// A translated module, without the bodies of its functions. In each index space the imported
-/// entities stand first.
+/// entities are first.
 #[derive(Drop)]
 pub struct Module {
-    /// The number of the module among those that are translated together.
+    /// The index of the module among those that are translated together.
     pub module_index: StaticModuleIndex,
     /// The texts of the names.
     pub strings: StringPool,
@@ -35,14 +35,14 @@ pub struct Module {
     pub exports: IndexMap<Atom, EntityIndex>,
     /// What runs when the module is instantiated.
     pub startup: ModuleStartup,
-    /// The image of each defined table: the functions in its first cells. The reserved index stands
-    /// for the null reference.
+    /// The image of each defined table: the functions in its first cells. The reserved index
+    /// represents the null reference.
     pub table_initialization: PrimaryMap<DefinedTableIndex, Vec<FuncIndex>>,
-    /// How the memories begin.
+    /// The initial content of the memories.
     pub memory_initialization: MemoryInitialization,
-    /// The type of the elements of each passive element segment, and their number.
+    /// The type of the elements of each passive element segment, and how many there are.
     pub passive_elements: PrimaryMap<PassiveElemIndex, (WasmRefType, u64)>,
-    /// The range of each runtime data, in bytes; they stand end to end from 0.
+    /// The range of each runtime data, in bytes; the ranges are contiguous from 0.
     pub runtime_data: PrimaryMap<RuntimeDataIndex, Range<u32>>,
     /// The interned type of each type of the type section.
     pub types: PrimaryMap<TypeIndex, EngineOrModuleTypeIndex>,

@@ -1,4 +1,4 @@
-//! How the tables of a module begin.
+//! The initial content of a module's tables.
 
 ghost use Rattle.std.specs.Prelude.{◌≡◌};
 ghost use Rattle.wasm_module.specs.Elements.{element_type, element_count};
@@ -8,19 +8,19 @@ use wasm_convert::ConstExpr;
 use wasm_index::{DefinedTableIndex, FuncIndex, TableIndex};
 use wasm_types::WasmRefType;
 
-/// How the tables of a module begin, as far as it is not in their images.
+/// The initial content of a module's tables, except what is in their images.
 #[derive(Drop)]
 pub struct TableInitialization {
-    /// What the cells of each defined table hold first.
+    /// The first content of the cells of each defined table.
     pub initial_values: PrimaryMap<DefinedTableIndex, TableInitialValue>,
     /// The active element segments that are then written, in order.
     pub segments: Vec<TableSegment>,
 }
 
-/// What each cell of a table holds first.
+/// The first content of each cell of a table.
 #[derive(Drop)]
 pub enum TableInitialValue {
-    /// The null reference, but for the cells of the table's image.
+    /// The null reference, except in the cells of the table's image.
     Null,
     /// The value of an expression.
     Expr(ConstExpr),
@@ -30,7 +30,7 @@ pub enum TableInitialValue {
 #[derive(Drop)]
 pub struct TableSegment {
     pub table_index: TableIndex,
-    /// Where in the table it begins.
+    /// The offset in the table where it begins.
     pub offset: ConstExpr,
     pub elements: TableSegmentElements,
 }
@@ -42,7 +42,7 @@ pub enum TableSegmentElements {
     Functions(Vec<FuncIndex>),
     /// The values of expressions.
     Expressions {
-        /// The type of each.
+        /// The type of each element.
         ty: WasmRefType,
         exprs: Vec<ConstExpr>,
     },

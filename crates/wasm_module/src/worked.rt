@@ -19,7 +19,7 @@ ghost use Rattle.wasm_module.specs.Spaces.{index_after, defined_at, first_indice
 use crate::initializer::Initializer;
 use wasm_types::{EngineOrModuleTypeIndex, EntityIndex, EntityType, IndexType};
 
-/// Two functions are imported: the defined ones are numbered from 2 on.
+/// Two functions are imported: the defined ones have the indices from 2 on.
 pub fn worked_spaces()
     ensures index { index_after {Space = FuncSpace} {Defined = DefinedFuncSpace} 2 (index_of 3) ≡ index_of 5 }
     ensures last_import { defined_at {Space = FuncSpace} {Defined = DefinedFuncSpace} 2 (index_of 1) ≡ None }

@@ -1,5 +1,5 @@
--- Where the engine's indices are those of a function, what becomes of an edge is what a function of
--- edges gives.
+-- Where a function of module indices gives the engine's indices, a function of edges gives what
+-- each edge becomes.
 use Rattle.std.proofs.Common.{◌≡◌, ◌∙◌, ◌-◌, ℕ, Bool, true, false, nat_lt, if◌then◌else◌, refl, ap}
 use Rattle.std.proofs.lemmas.Bool.{ltb-true, ltb-false}
 use Rattle.wasm_types.specs.declared.index.EngineOrModuleTypeIndex.{EngineOrModuleTypeIndex}

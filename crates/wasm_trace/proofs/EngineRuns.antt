@@ -1,5 +1,5 @@
--- A run over all edges that passes the engine's on to another visitor is a run of that over the
--- engine's edges.
+-- A run over all edges whose visitor passes the engine's edges on to another visitor is a run of
+-- that other visitor over the engine's edges.
 use Rattle.std.proofs.Common.{◌≡◌, ◌∙◌, List, [], ◌∷◌, ◌++◌, Result, Ok, Err, ap, subst, inl, inr}
 use Rattle.std.specs.Fn.{Mut, Called, Takes}
 use Rattle.std.proofs.lemmas.List.Elements.{filter_map-append}
@@ -11,7 +11,7 @@ use Rattle.wasm_types.specs.Views.{engine_index}
 use Rattle.wasm_trace.specs.Canonical.{engine_edges, AtEngineEdge}
 use Rattle.wasm_trace.specs.Runs.{Run, MayRun}
 
--- the outer visitor holds the inner one, `held`, by a reference of one name
+-- the outer visitor holds the inner one, `held`, by a reference with a fixed name
 module _ {S F E N : Type 0} (inner : Mut F (Index VMSharedTypeSpace × Unit {0}) (Result (Unit {0}) E)) (held : S → F) (name : S → N) where
   -- what a visit of the outer visitor does
   abbrev pub PassesOn : S → EngineOrModuleTypeIndex → Result (Unit {0}) E → S → Type 0
@@ -21,7 +21,7 @@ module _ {S F E N : Type 0} (inner : Mut F (Index VMSharedTypeSpace × Unit {0})
   module _ (outer : Mut S (EngineOrModuleTypeIndex × Unit {0}) (Result (Unit {0}) E))
       (visits : (s : S) (e : EngineOrModuleTypeIndex) (r : Result (Unit {0}) E) (s' : S) → Called outer s (e, tt) r s'
       → PassesOn s e r s' × (name s' ≡ name s)) where
-    -- an edge that is passed over
+    -- an edge that is skipped
     over : (es : List EngineOrModuleTypeIndex) (s t : S) (r : Result (Unit {0}) E) (s' : S) → (held t ≡ held s) × (name t ≡ name s)
         → Run inner (held t) (engine_edges es) r (held s') × (name s' ≡ name t)
         → Run inner (held s) (engine_edges es) r (held s') × (name s' ≡ name s)
@@ -48,7 +48,7 @@ module _ {S F E N : Type 0} (inner : Mut F (Index VMSharedTypeSpace × Unit {0})
         let here = visits s (RecGroup i) (Ok tt) more.0 more.1 in
         over es s more.0 r s' (here.0.1, here.1) (Run-engine es more.0 r s' more.2)
 
-    -- the inner visitor may be called wherever an engine's edge comes
+    -- the inner visitor may be called wherever an engine's edge occurs
     pub Run-comes : (es : List EngineOrModuleTypeIndex) (s : S) → MayRun inner (held s) (engine_edges es)
         → (past rest : List EngineOrModuleTypeIndex) (e : EngineOrModuleTypeIndex) (now : S) → es ≡ past ++ e ∷ rest → Run outer s past (Ok tt) now
         → AtEngineEdge (λ i. Takes inner (held now) (i, tt)) e

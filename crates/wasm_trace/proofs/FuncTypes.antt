@@ -1,4 +1,4 @@
--- The edges and the frame of a function type of joined lists.
+-- The edges and the frame of a function type whose two lists are joined.
 use Rattle.std.proofs.Common.{◌≡◌, ◌∙◌, ℕ, List, ◌++◌, length, map, take, drop, refl, sym, ap}
 use Rattle.std.specs.List.{flat_map}
 use Rattle.std.proofs.lemmas.Grind.{flat_map-append}

@@ -9,11 +9,11 @@ use Rattle.wasm_types.specs.declared.index.EngineOrModuleTypeIndex.{EngineOrModu
 use Rattle.wasm_types.specs.declared.index.EngineOrModuleTypeIndex.TheVariants.{Engine, Module, RecGroup}
 use Rattle.wasm_types.specs.Views.{engine_index}
 
--- the engine's indices among the edges, in order
+-- the engine's indices in the edges, in order
 abbrev pub engine_edges : List EngineOrModuleTypeIndex → List (Index VMSharedTypeSpace)
 engine_edges es = filter_map engine_index es
 
--- what a visit of the engine's edges alone needs at an edge
+-- what a visit of the engine's edges alone requires at an edge
 abbrev pub AtEngineEdge : (Index VMSharedTypeSpace → Type 0) → EngineOrModuleTypeIndex → Type 0
 AtEngineEdge needs (Engine i) = needs i
 AtEngineEdge needs _ = ⊤
@@ -23,14 +23,14 @@ module _ (table : Index ModuleInternedTypeSpace → Index VMSharedTypeSpace → 
   abbrev pub IsEngineIndexOf : Index ModuleInternedTypeSpace → EngineOrModuleTypeIndex → Type 0
   IsEngineIndexOf i new = (engine : Index VMSharedTypeSpace) × table i engine × (new ≡ Engine engine)
 
-  -- what becomes of an edge where all edges become the engine's
+  -- the new value of an edge where all edges become the engine's
   abbrev pub IsRuntimeEdge : EngineOrModuleTypeIndex → EngineOrModuleTypeIndex → Type 0
   IsRuntimeEdge (Engine i) new = new ≡ Engine i
   IsRuntimeEdge (Module i) new = IsEngineIndexOf i new
   IsRuntimeEdge (RecGroup i) new = ⊥
 
-  -- what becomes of an edge where those into the types from `start` on become relative to it, and
-  -- all others the engine's
+  -- the new value of an edge where edges into the types from `start` on become relative to `start`,
+  -- and all others become the engine's
   abbrev pub IsConsedEdge : ℕ → EngineOrModuleTypeIndex → EngineOrModuleTypeIndex → Type 0
   IsConsedEdge start (Engine i) new = new ≡ Engine i
   IsConsedEdge start (Module i) new =
@@ -39,20 +39,21 @@ module _ (table : Index ModuleInternedTypeSpace → Index VMSharedTypeSpace → 
   IsConsedEdge start (RecGroup i) new = ⊥
 
 module _ (may : Index ModuleInternedTypeSpace → Type 0) where
-  -- an edge that can become so: none is into a group, and the table may be called at each module index
+  -- an edge that can be rewritten so: none is into a group, and the table may be called at each
+  -- module index
   abbrev pub CanBeRuntimeEdge : EngineOrModuleTypeIndex → Type 0
   CanBeRuntimeEdge (Engine i) = ⊤
   CanBeRuntimeEdge (Module i) = may i
   CanBeRuntimeEdge (RecGroup i) = ⊥
 
-  -- an edge that can become so: none is into a group, the table may be called below the range, and
-  -- none is past it
+  -- an edge that can be rewritten so: none is into a group, the table may be called below the
+  -- range, and none is past it
   abbrev pub CanBeConsedEdge : ℕ → ℕ → EngineOrModuleTypeIndex → Type 0
   CanBeConsedEdge start end (Engine i) = ⊤
   CanBeConsedEdge start end (Module i) = (number_of i < start → may i) × (start ≤ number_of i → number_of i < end)
   CanBeConsedEdge start end (RecGroup i) = ⊥
 
--- a table that gives what a function gives
+-- a table that returns what a function gives
 abbrev pub Gives : (Index ModuleInternedTypeSpace → Index VMSharedTypeSpace → Type 0) → (Index ModuleInternedTypeSpace → Index VMSharedTypeSpace)
     → Type 0
 Gives table engine = (i : Index ModuleInternedTypeSpace) (e : Index VMSharedTypeSpace) → table i e → e ≡ engine i

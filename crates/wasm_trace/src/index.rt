@@ -1,4 +1,4 @@
-//! The edge that a type index is.
+//! The one edge of a type index.
 
 ghost use Rattle.type_data.specs.Names.{reference_alone};
 

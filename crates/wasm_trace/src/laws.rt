@@ -21,7 +21,7 @@ where
         → Run F.FnMut before (xs ++ ys) result after ↔ RunBoth F.FnMut before xs ys result after }
 {}
 
-/// So it is where visits may change edges.
+/// The same holds where visits may change edges.
 pub fn run_mut_laws<F, E>()
 where
     F: FnMut(&mut EngineOrModuleTypeIndex) -> Result<(), E>,
@@ -38,8 +38,8 @@ where
         → RunMut F.FnMut before (T.shape.edges (T.view old)) result after (T.shape.edges (T.view new)) → new ≡ old }
 {}
 
-/// Two values in the form in which types are compared are equal exactly where they were alike but
-/// for references that become equal.
+/// Two values in the form in which types are compared are equal exactly where the original values
+/// were alike except for references that become equal.
 pub fn compared_forms_law<T: TypeTrace>()
     ensures { (engine engine' : Index ModuleInternedTypeSpace → Index VMSharedTypeSpace) (start start' : ℕ) (x y x' y' : T)
         → T.view x' ≡ T.shape.map (consed_edge engine start) (T.view x) → T.view y' ≡ T.shape.map (consed_edge engine' start') (T.view y)

@@ -1,4 +1,4 @@
-//! The trait of what has edges to types.
+//! The trait of values that have edges to types.
 
 ghost use Rattle.std.specs.Prelude.{◌≡◌, ◌↔◌, IsTrue, IsSome, None, List, All};
 ghost use Rattle.type_data.specs.Names.{Traced, Alike, frame};
@@ -16,9 +16,9 @@ use std::ops::Range;
 use wasm_index::{ModuleInternedTypeIndex, RecGroupRelativeTypeIndex, VMSharedTypeIndex};
 use wasm_types::EngineOrModuleTypeIndex;
 
-/// What has edges to types: the type indices that stand in it, in one order.
+/// A value with edges to types: the type indices that it contains, in a fixed order.
 pub trait TypeTrace {
-    /// What it is as data, over any references.
+    /// The value as data, over any type of references.
     ghost Data: { Type 0 → Type 0 };
 
     /// How the references of such data are replaced, and their order.
@@ -34,8 +34,8 @@ pub trait TypeTrace {
         requires { MayRun F.FnMut func.old (shape.edges (view self.now)) }
         ensures { Run F.FnMut func.old (shape.edges (view self.now)) result func.new };
 
-    /// Visits each edge, in order, for writing. It stops at the first `Err` that a visit returns, and what
-    /// was written until then stays.
+    /// Visits each edge, in order, for writing. It stops at the first `Err` that a visit returns;
+    /// what was written before remains.
     fn trace_mut<F, E>(&mut self, func: &mut F) -> Result<(), E>
     where
         F: FnMut(&mut EngineOrModuleTypeIndex) -> Result<(), E>,
@@ -105,9 +105,9 @@ pub trait TypeTrace {
         .is_ok()
     }
 
-    /// Rewrites each edge into a module's types: into the recursion group of the range it becomes an index
-    /// into the group, and all others become the engine's index of that type. No edge may be into a
-    /// recursion group before, or past the range.
+    /// Rewrites each edge into a module's types. An edge into the recursion group of the range
+    /// becomes an index into the group. All others become the engine's index of that type. No edge
+    /// may be into a recursion group before, or past the range.
     final fn canonicalize_for_hash_consing<F>(
         &mut self,
         rec_group_range: Range<ModuleInternedTypeIndex>,
@@ -161,6 +161,6 @@ pub trait TypeTrace {
         .is_ok()
     }
 
-    /// The view tells values apart.
+    /// The view distinguishes values.
     ghost injective: { (x y : Self) → view x ≡ view y → x ≡ y };
 }

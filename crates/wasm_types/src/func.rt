@@ -28,7 +28,7 @@ pub struct WasmFuncType {
     non_i31_gc_ref_results_count: u32,
 }
 
-/// A contract sees the parameters and the results as two lists.
+/// A contract views the parameters and the results as two lists.
 impl Model for WasmFuncType {
     ghost use Rattle.wasm_types.specs.Parts.{FuncParts, split_types};
     ghost use Rattle.wasm_types.specs.Counts.{IsCounted};
@@ -110,8 +110,8 @@ impl WasmFuncType {
         }
     }
 
-    /// Takes its types out, the parameters first, and says how many parameters there are. The empty
-    /// function type is left.
+    /// Takes its types out, the parameters first, and returns how many parameters there are. The
+    /// empty function type remains.
     pub fn take_types(&mut self) -> (Vec<WasmValType>, u32)
         ensures types { result.0.items ≡ self.old.params ++ self.old.results }
         ensures count { result.1 ≡ length self.old.params }
@@ -136,7 +136,9 @@ impl WasmFuncType {
         &self.types[..self.params_count as usize]
     }
 
-    /// How many parameters are references that the garbage collector sees, and that may point to an object.
+    /// How many parameters are references that the garbage collector traces, and that may point to
+    /// an
+    /// object.
     pub fn non_i31_gc_ref_params_count(&self) -> usize
         ensures { result ≡ count_by val_is_object self.now.params }
     {
@@ -151,15 +153,16 @@ impl WasmFuncType {
         &self.types[self.params_count as usize..]
     }
 
-    /// How many results are references that the garbage collector sees, and that may point to an object.
+    /// How many results are references that the garbage collector traces, and that may point to an
+    /// object.
     pub fn non_i31_gc_ref_results_count(&self) -> usize
         ensures { result ≡ count_by val_is_object self.now.results }
     {
         self.non_i31_gc_ref_results_count as usize
     }
 
-    /// The type index in the value type at a place of the parameters and then the results, for
-    /// writing. It is None where the place is past both, or the type there has no index.
+    /// The type index in the value type at a position of the parameters and then the results, for
+    /// writing. It is None where the position is past both, or the type there has no index.
     pub fn index_mut(&mut self, at: usize) -> Option<&mut EngineOrModuleTypeIndex>
         ensures* writes_back { sem 𝓛 (LendsFuncIndex self.entry at result) }
         ensures value { option_copied_mut result ≡ index_at self.old at }

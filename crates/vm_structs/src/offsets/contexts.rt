@@ -89,7 +89,7 @@ impl<P: PtrSize> VMStoreContext<P> {
 pub struct VMContext<P: PtrSize>(pub P);
 
 impl<P: PtrSize> VMContext<P> {
-    /// Where the number by which a context is known begins.
+    /// Where the magic number that identifies a context begins.
     pub fn magic(&self) -> u8
         requires { IsPointerSize (P.pointer_size self.now.0) }
         ensures { offset_of static_context (codes "magic") (P.pointer_size self.now.0) ≡ Some result }

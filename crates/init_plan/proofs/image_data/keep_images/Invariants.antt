@@ -7,7 +7,7 @@ use Rattle.memory_images.specs.Images.{images_of}
 use Rattle.init_plan.specs.Views.{bytes_of, planned_segment_of}
 use Rattle.init_plan.proofs.image_data.keep_images.Given as goal
 
--- what is kept so far, and what the images that are left will be kept as, are what all are kept as
+-- the images kept so far, with what the remaining images become, are what all images become
 abbrev pub invariant-loop-image : goal.invariant-loop-image
 invariant-loop-image l = record {
   room : length l.runtime_data + length (into_iter_items l.image-iterator) ≤ length l.fn.runtime_data + length l.fn.images.items;

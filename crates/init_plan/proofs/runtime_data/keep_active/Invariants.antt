@@ -4,7 +4,7 @@ use Rattle.replay_spec.specs.Plan.{planned_from}
 use Rattle.init_plan.specs.Views.{active_segment_of, planned_segment_of, bytes_of}
 use Rattle.init_plan.proofs.runtime_data.keep_active.Given as goal
 
--- what is planned so far and what the segments left will be planned as are the plan of all segments
+-- what is planned so far, with the plan of the remaining segments, is the plan of all segments
 abbrev pub invariant-loop-segment : goal.invariant-loop-segment
 invariant-loop-segment l = record {
   room : length l.runtime_data + length (into_iter_items l.segment-iterator) ≡ length l.fn.runtime_data + length l.fn.segments.items;

@@ -3,7 +3,7 @@ use Rattle.init_plan.specs.Views.{passive_segment_of, bytes_of}
 use Rattle.init_plan.proofs.Entered.{entered}
 use Rattle.init_plan.proofs.runtime_data.keep_passive.Given as goal
 
--- with the segments that are left, the data and the map become what they become of all segments
+-- with the remaining segments, the data and the map become what they become with all segments
 abbrev pub invariant-loop-index : goal.invariant-loop-index
 invariant-loop-index l = record {
   room : length l.runtime_data ≡ length l.fn.runtime_data + l.index-index;

@@ -3,7 +3,7 @@ use Rattle.replay_spec.specs.Plan.{ranges_from}
 use Rattle.init_plan.specs.Views.{bytes_of}
 use Rattle.init_plan.proofs.runtime_data.ranges_end_to_end.Given as goal
 
--- the ranges so far and those of what is left are all ranges
+-- the ranges so far, with those of the remaining data, are all ranges
 abbrev pub invariant-loop-bytes : goal.invariant-loop-bytes
 invariant-loop-bytes l = record {
   can_next : (goal.iterator-loop-bytes).can_next l.bytes-iterator;

@@ -4,7 +4,8 @@ use Rattle.table_images.specs.Views.{defined_tables_of, initial_of}
 use Rattle.table_images.specs.Left.{StandStill}
 use Rattle.table_images.proofs.first.drop_imaged.Given as goal
 
--- the values so far are what is kept, the others stay, and each initialiser stands where it stood
+-- the values so far are those that are kept, the others are unchanged, and each initialiser keeps
+-- its position
 abbrev pub invariant-tables : goal.invariant-tables
 invariant-tables l = record {
   count : length l.values ≡ length l.fn.values;

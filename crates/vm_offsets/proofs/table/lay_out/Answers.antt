@@ -1,4 +1,4 @@
--- What is placed is the context.
+-- The entries that are placed are those of the context.
 use Rattle.vm_offsets.proofs.Placing.{laid-entries, laid-size}
 use Rattle.vm_offsets.proofs.table.lay_out.Goals as goal
 

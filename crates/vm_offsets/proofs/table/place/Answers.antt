@@ -5,7 +5,7 @@ use Rattle.vm_offsets.specs.Entries.{rows_of}
 use Rattle.vm_offsets.proofs.Placing.{end_from-grows, end_from-step, placed_from-step, all_placed}
 use Rattle.vm_offsets.proofs.table.place.Goals as goal
 
--- what is past the limit stays past it
+-- a size that is past the limit stays past it
 pub returns-then-end-from-clause-overflow : goal.returns-then-end-from-clause-overflow
 returns-then-end-from-clause-overflow c =
     let next : ℕ = c.begin-begin.result + c.from.result * c.from-in-loop-place.result in

@@ -1,4 +1,4 @@
--- What the operators so far leave, the rest leaves as all of them do.
+-- From what the operators so far give, the remaining operators give what all of them give.
 use Rattle.std.proofs.Common.{◌≡◌, [], drop}
 use Rattle.replay_spec.specs.Values.{plain_step, run}
 use Rattle.wasm_convert.specs.Constants.{expression_of}

@@ -2,7 +2,7 @@ use Rattle.std.proofs.Common.{◌≡◌, ◌≢◌, ℕ, ◌+◌, ◌<◌, ◌�
 use Rattle.entity_map.specs.Chains.{slot, slots_of}
 use Rattle.entity_map.proofs.chains.Chains.find.Given as goal
 
--- no text from the link on is this one, and the link is of the hash's slot
+-- no text from the link on is this one, and the link belongs to the slot of the hash
 abbrev pub invariant-loop-link : goal.invariant-loop-link
 invariant-loop-link l = record {
   within : l.link ≤ length l.hashes;

@@ -54,7 +54,7 @@ returns-clause-large c = λ much.
     let fits = fits_sized (image_options c.args.tunables.now c.args.page_size c.args.max_image) c.args.self.now c.requires.ready c.in_ok-images.images
     c.in_ok-images.ensures.sized much.plan much.is_plan in absurd (omega (arith, fits, much.size))
 
--- there is a plan, and its runtime data are too large as those of each are
+-- there is a plan, and its runtime data are too large because those of every plan are
 pub returns-in_err-images-clause-too_large : goal.returns-in_err-images-clause-too_large
 returns-in_err-images-clause-too_large c = λ is.
     let old = c.args.self.now in
@@ -66,7 +66,7 @@ returns-in_err-images-clause-too_large c = λ is.
     let same : c.in_err-images.field-0.0 ≡ plan.TooLarge = cc in
     record { plan = some.0; is_plan = some.1; size = c.in_err-images.ensures.too_large (ap Err same) some.0 some.1 }
 
--- where images are off only the size is refused
+-- where images are off, only the size can be an error
 pub returns-in_err-images-clause-poisoned_without_images : goal.returns-in_err-images-clause-poisoned_without_images
 returns-in_err-images-clause-poisoned_without_images c = λ off fits poisoned.
     let large = data_large (image_options c.args.tunables.now c.args.page_size c.args.max_image) c.args.self.now c.requires.ready off

@@ -66,7 +66,7 @@ ranges_end_to_end-requires-clause-few c =
     let few_passive : length (passive_bytes old) ≡ length (passive_data_of old) = length-map (passive_data_of old) (λ p. p.1) in
     omega (arith, long, few, few_passive, c.in_ok-begin_memories.ensures.few, c.requires.ready.few_passive)
 
--- as many runtime data stand before those of the passive segments as the memories have
+-- the number of runtime data before those of the passive segments is that of the memories
 pub returns-clause-found : goal.returns-clause-found
 returns-clause-found c =
     let old : ModuleTranslation = c.args.self.now in

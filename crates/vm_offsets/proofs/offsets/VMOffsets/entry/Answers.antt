@@ -1,4 +1,4 @@
--- The entry at a place is the context's.
+-- The entry at a position is the entry of the context.
 use Rattle.std.proofs.Common.{arith}
 use Rattle.vm_offsets.proofs.Kept.{kept_at}
 use Rattle.vm_offsets.proofs.offsets.VMOffsets.entry.Goals as goal
