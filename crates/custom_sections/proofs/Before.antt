@@ -28,7 +28,7 @@ abbrev pub ended : {A : Type 0} → List A → Option (List ℕ) → List A × O
 ended front rest = (front, rest)
 
 module _ {A : Type 0} (part : Partly A) where
-  -- what so many elements add to those before
+  -- what so many elements add to the earlier ones
   abbrev pub still : List A → ℕ → List ℕ → List A × Option (List ℕ)
   still front n bytes = in_front front (elements_before part n bytes)
 

@@ -1,4 +1,4 @@
--- Cutting `.dwo` takes nothing of `.debug_`.
+-- Cutting `.dwo` removes nothing of `.debug_`.
 use Rattle.std.proofs.lemmas.Grind.{common_steps}
 use Rattle.std.proofs.Common.{◌≡◌, ℕ, zero, suc, ◌-◌, ◌≤◌, List, ◌++◌, length, take, drop, get_or, Bool, true, cond, eqb, refl, sym, arith, append_assoc}
 use Rattle.std.specs.Prelude.{codes}

@@ -7,7 +7,7 @@ use Rattle.form_reader.specs.ReadingNumbers.{unsigned_at, vector_at}
 use Rattle.custom_sections.specs.Reading.{taken}
 use Rattle.custom_sections.proofs.Takes.{read_from_taken, fault_from_none}
 
--- what was read before, and what is still read
+-- what was read before, and what is still to be read
 abbrev pub with_front : {A : Type 0} → List A → Option (List A × List ℕ) → Option (List A × List ℕ)
 with_front front read = option_map (λ x. (front ++ x.0, x.1)) read
 
@@ -20,7 +20,7 @@ all_so_far : {A : Type 0} (read : Result (List A × List ℕ) Fault) → with_fr
 all_so_far read = grind arith
 
 module _ {A : Type 0} (part : Reader A) where
-  -- what so many elements add to those before
+  -- what so many elements add to the earlier ones
   abbrev pub so_far : List A → ℕ → List ℕ → Option (List A × List ℕ)
   so_far front n bytes = with_front front (taken (elements_at part n bytes))
 

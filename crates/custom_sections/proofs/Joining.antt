@@ -55,7 +55,7 @@ module _ (locals : Bool) where
   unfolding subsections_before
   none_is names n bytes e = grind (arith, fault_from_none, joined_none)
 
-  -- where no subsection stands, there is no more
+  -- where there is no subsection, there is no more
   pub none : (names : NameLists) (count i : ℕ) (bytes : List ℕ) (total : NameLists) → i < count
       → None ≡ taken (sized_subsection_at bytes) → still_named names (count - i) bytes ≡ total → names ≡ total
   none names count i bytes total lt e h = grind (arith, none_is names (count - (i + 1)) bytes e)

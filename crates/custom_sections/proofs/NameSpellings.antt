@@ -1,4 +1,4 @@
--- What the grammar spells is read whole.
+-- What the grammar spells is read completely.
 use Rattle.std.proofs.Common.{◌≡◌, ℕ, zero, suc, ◌≤◌, List, [], ◌∷◌, ◌++◌, length, Bool, true, false, cond, Option, Some, Ok, refl, sym, ap, ◌∙◌, arith, append_assoc, length-append}
 use Rattle.std.specs.Prelude.{◌==◌, ◌&&◌}
 use Rattle.std.proofs.lemmas.List.{append-nil}
@@ -109,7 +109,7 @@ sized_again : (id : ℕ) (bytes contents rest : List ℕ) → counted_bytes_at (
 unfolding sized_subsection_at
 sized_again id bytes contents rest e = rw e refl
 
--- one subsection, and what is read behind it
+-- one subsection, and what is read after it
 one_again : (locals : Bool) (n id : ℕ) (bytes rest : List ℕ) (names : NameLists) → (sized (subsection_contents locals id)).spells bytes names
     → subsections_before locals (suc n) (id ∷ bytes ++ rest) ≡ joined names (subsections_before locals n rest)
 unfolding subsections_before

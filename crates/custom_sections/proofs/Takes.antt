@@ -19,6 +19,6 @@ none_is x e = absurd cc
 pub read_from_taken : {A : Type 0} (read : Result A Fault) (x : A) → taken read ≡ Some x → read ≡ Ok x
 read_from_taken read x e = grind arith
 
--- where nothing was taken, a fault came
+-- where nothing was taken, there was a fault
 pub fault_from_none : {A : Type 0} (read : Result A Fault) → taken read ≡ None → (fault : Fault) × (read ≡ Err fault)
 fault_from_none read e = grind arith

@@ -7,6 +7,6 @@ abbrev pub without_dwo : ℕ → List ℕ → List ℕ
 without_dwo zero name = name
 without_dwo (suc n) name = if ends_with nat_eq name (codes ".dwo") then without_dwo n (take (length name - 4) name) else name
 
--- it begins with `.debug_` when each `.dwo` is cut that it ends in
+-- it begins with `.debug_` once each `.dwo` that it ends in is cut
 unfoldable pub is_debug : List ℕ → Bool
 is_debug name = starts_with nat_eq (without_dwo (length name) name) (codes ".debug_")

@@ -7,7 +7,7 @@ use Rattle.custom_sections.specs.declared.hints.Hint.{Hint}
 abbrev pub likelihood : ℕ → Part Bool
 likelihood b = choose (b == 0x00) (gives false) (choose (b == 0x01) (gives true) nothing)
 
--- 01, the number of the bytes behind it, and then the likelihood
+-- 01, the number of the bytes after it, and then the likelihood
 abbrev pub likely : ℕ → Part Bool
 likely b = choose (b == 0x01) (first_byte likelihood) nothing
 

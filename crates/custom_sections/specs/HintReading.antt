@@ -23,6 +23,7 @@ hint_entry_at = do
   hints ← vector_at hint_at
   gives_at (function, hints)
 
--- what the contents of a section of hints say: all of its entries, or with a fault anywhere nothing
+-- what the contents of a section of hints give: all of its entries, or with a fault anywhere
+-- nothing
 abbrev pub hints_of_section : List ℕ → Option (List (ℕ × List Hint))
 hints_of_section contents = taken (whole (vector_at hint_entry_at) contents)

@@ -22,8 +22,8 @@ local_naming = do
   locals ← name_map
   gives (function, locals)
 
--- the names of the subsection with this id; those of locals are asked for or skipped, as is a
--- subsection of any higher id
+-- the names of the subsection with this id; those of locals are read where the caller requires
+-- them, and skipped otherwise, as is a subsection of any higher id
 abbrev pub subsection_contents : Bool → ℕ → Part NameLists
 subsection_contents locals id =
     choose (id == 0) (name >>= λ text. gives (record no_names { module_name = Some text }))

@@ -1,5 +1,5 @@
--- What a name section says: the names that stand before its first fault (core specification,
--- appendix, name section).
+-- What a name section gives: the names before its first fault (core specification, appendix, name
+-- section).
 use Rattle.std.specs.Prelude.{ℕ, zero, suc, List, [], ◌∷◌, ◌++◌, length, Bool, true, false, ◌==◌, ◌&&◌, Option, Some, None, Result, Ok, Err, if◌then◌else◌}
 use Rattle.std.specs.Option.{option_or}
 use Rattle.form_reader.specs.Reading.{Fault, Reader, ◌>>=◌, gives_at, first_byte_at, whole}
@@ -7,8 +7,8 @@ use Rattle.form_reader.specs.ReadingNumbers.{unsigned_at, counted_bytes_at, name
 
 -- ---- vectors up to a fault
 
--- what stands at the front of some bytes before a fault, if anything does, and the bytes behind it
--- where no fault came
+-- what is at the front of some bytes before a fault, if anything is, and the bytes after it
+-- where there was no fault
 abbrev pub Partly : Type 0 → Type 0
 Partly A = List ℕ → Option A × Option (List ℕ)
 
@@ -20,11 +20,11 @@ abbrev pub list_of : {A : Type 0} → Option A → List A
 list_of (Some x) = x ∷ []
 list_of None = []
 
--- these, and those behind them
+-- these, and those after them
 abbrev pub in_front : {A : Type 0} → List A → List A × Option (List ℕ) → List A × Option (List ℕ)
 in_front front later = (front ++ later.0, later.1)
 
--- these, and those at the bytes behind them, unless there was a fault
+-- these, and those at the bytes after them, unless there was a fault
 abbrev pub go_on : {A : Type 0} → List A → Option (List ℕ) → PartlyAll A → List A × Option (List ℕ)
 go_on front None later = (front, None)
 go_on front (Some rest) later = in_front front (later rest)
@@ -76,7 +76,7 @@ locals_before bytes = locals_behind (unsigned_at 32 bytes)
 
 -- ---- subsections
 
--- names in the order in which they stand
+-- names in the order of the section
 pub record NameLists : Type 0 where
   -- the last name of the module
   pub module_name : Option (List ℕ)
@@ -94,7 +94,7 @@ joined names later = record {
   locals = names.locals ++ later.locals;
 }
 
--- no fault came, and no byte is left
+-- there was no fault, and no byte remains
 abbrev pub is_filled : Option (List ℕ) → Bool
 is_filled (Some bytes) = length bytes == 0
 is_filled None = false
@@ -110,8 +110,8 @@ functions_named names = (record no_names { functions = names.0 }, is_filled name
 abbrev pub locals_named : List (ℕ × List (ℕ × List ℕ)) × Option (List ℕ) → NameLists × Bool
 locals_named names = (record no_names { locals = names.0 }, is_filled names.1)
 
--- the names of the subsection with this id; those of locals are asked for or skipped, as is a
--- subsection of any higher id
+-- the names of the subsection with this id; those of locals are read where the caller requires
+-- them, and skipped otherwise, as is a subsection of any higher id
 unfoldable pub subsection : Bool → ℕ → List ℕ → NameLists × Bool
 subsection locals id contents =
     if id == 0 then module_named (whole name_at contents)
@@ -123,7 +123,7 @@ subsection locals id contents =
 unfoldable pub sized_subsection_at : Reader (ℕ × List ℕ)
 sized_subsection_at = first_byte_at (λ id. counted_bytes_at >>= λ contents. gives_at (id, contents))
 
--- names, and those at the bytes behind them, unless there was a fault
+-- names, and those at the bytes after them, unless there was a fault
 abbrev pub go_on_names : NameLists → Bool → NameLists → NameLists
 go_on_names names true later = joined names later
 go_on_names names false later = names

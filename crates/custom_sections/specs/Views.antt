@@ -1,4 +1,4 @@
--- How the types of this crate are seen.
+-- The views of the types of this crate.
 use Rattle.std.specs.Prelude.{ℕ, List, map}
 use Rattle.std.specs.Option.{option_map}
 use Rattle.std.specs.Borrow.{Bor}

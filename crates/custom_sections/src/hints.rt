@@ -1,4 +1,4 @@
-//! Hints at branches: a section whose every fault drops it whole.
+//! Hints at branches: any fault in a section drops all of its hints.
 
 ghost use Rattle.std.specs.Prelude.{◌≡◌, ℕ, List, map, IfOk, IfSome, MatchOption};
 ghost use Rattle.std.specs.Option.{option_map};
@@ -16,7 +16,7 @@ use std::alloc::Global;
 /// Whether a branch of a function is likely to be taken.
 #[derive(Clone, Copy, Debug, PartialEq, Eq)]
 pub struct Hint {
-    /// Where the branch stands, in bytes from the beginning of the function's body.
+    /// The offset of the branch, in bytes from the beginning of the function's body.
     pub func_offset: u32,
     pub taken: bool,
 }
@@ -91,8 +91,8 @@ fn entries(
     Ok(Some((all, rest)))
 }
 
-/// The functions of a section of branch hints with their hints, in the order in which they stand;
-/// `None` where the contents are no such section.
+/// The functions of a section of branch hints with their hints, in the order of the section; `None`
+/// where the contents are no such section.
 pub fn read_hints(
     alloc: Global,
     contents: &[u8],

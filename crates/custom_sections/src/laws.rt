@@ -7,7 +7,7 @@ ghost use Rattle.custom_sections.specs.NameGrammar.{name_map, SpellsSubsections,
 ghost use Rattle.custom_sections.specs.HintReading.{hints_of_section};
 ghost use Rattle.custom_sections.specs.HintGrammar.{hint_section};
 
-/// What the grammar of the standard spells is read whole: names one after another, whatever
+/// What the grammar of the standard spells is read completely: names one after another, whatever
 /// follows, and a section without a fault.
 pub fn spelled_names_are_read()
     ensures vector { (front rest : List ℕ) (names : List (ℕ × List ℕ)) → name_map.spells front names

@@ -2,7 +2,7 @@
 //!
 //! `read_names` returns the names before the first fault of the section. `read_hints` returns all
 //! hints, or `None` where the contents are no such section. Laws prove that what the grammars spell
-//! is read whole.
+//! is read completely.
 //!
 //! ```
 //! let names = read_names(alloc, contents, true)?; // true: also names of locals
@@ -11,8 +11,8 @@
 //! let debug = is_debug_name(".debug_info"); // true
 //! ```
 //!
-//! Names are slices of the input. Lists grow as entries are read, so a large count alone takes no
-//! memory.
+//! Names are slices of the input. Lists grow as entries are read, so a large count alone allocates
+//! nothing.
 //!
 //! Read on: `names`, `hints`, `debug`; `module_customs` chooses the sections.
 #![tactic(auto)]

@@ -22,8 +22,8 @@ const FUNCTIONS: u8 = 1;
 /// A subsection with names of locals.
 const LOCALS: u8 = 2;
 
-/// What a name section says, as far as it could be read. Names stand in the order of the section;
-/// of several for one index, the last one counts.
+/// What a name section gives, as far as it could be read. Names are in the order of the section; of
+/// several for one index, the last one counts.
 #[derive(Drop)]
 pub struct Names<'d> {
     pub module_name: Option<&'d str>,
@@ -116,7 +116,7 @@ fn whole_name(bytes: &[u8]) -> Option<&str>
     }
 }
 
-/// Whether there was no fault, and no byte is left.
+/// Whether there was no fault, and no byte remains.
 fn is_filled(rest: Option<&[u8]>) -> bool
     ensures { result ≡ filled (option_map (λ bytes. bytes.now) rest.entry) }
 {
@@ -127,7 +127,8 @@ fn is_filled(rest: Option<&[u8]>) -> bool
 }
 
 impl<'d> Names<'d> {
-    /// Adds the names of a subsection, those of locals where they are asked for; whether they fill it.
+    /// Adds the names of a subsection, those of locals where the caller requires them; returns
+    /// whether they fill it.
     fn add(
         &mut self,
         alloc: Global,
@@ -153,8 +154,8 @@ impl<'d> Names<'d> {
     }
 }
 
-/// Reads the contents of a name section, the names of locals where they are asked for. A fault ends
-/// the names, and what stands before it is kept.
+/// Reads the contents of a name section, with the names of locals where the caller requires them. A
+/// fault ends the names, and the names before it are kept.
 pub fn read_names<'d>(
     alloc: Global,
     contents: &'d [u8],

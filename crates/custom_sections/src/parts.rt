@@ -1,5 +1,5 @@
 //! The parts of the format of which both sections are made (core specification, 5.2, values). A
-//! part that is not there is `None`.
+//! part that is missing is `None`.
 
 ghost use Rattle.std.specs.Prelude.{◌≡◌};
 ghost use Rattle.std.specs.Option.{option_map};
@@ -44,7 +44,8 @@ fn long_u32_at(bytes: &[u8]) -> Option<(u32, &[u8])>
     None
 }
 
-/// A number of 32 bits, and the bytes after it. Most numbers have one byte, so that has a path of its own.
+/// A number of 32 bits, and the bytes after it. Most numbers have one byte, so that case has its
+/// own path.
 #[inline]
 pub(crate) fn u32_at(bytes: &[u8]) -> Option<(u32, &[u8])>
     ensures { option_map (λ x. (x.0, x.1.now)) result ≡ taken (unsigned_at 32 bytes.now) }

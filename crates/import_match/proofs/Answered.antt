@@ -1,4 +1,4 @@
--- What is answered to imports, one after another.
+-- The results for imports, one after another.
 use Rattle.std.proofs.Common.{◌≡◌, ◌≤◌, ◌+◌, ℕ, zero, suc, List, [], ◌∷◌, ◌++◌, length, map, drop, slice_get, Option, Some, None, Result, Ok, Err, Vec, Global, refl, sym, ap, ◌∙◌, inl, inr, arith}
 use Rattle.std.specs.Prelude.{◌⊎◌, IsSomeAnd, IsOk, IfOk}
 use Rattle.std.specs.List.{enumerate_from, AllZip}
@@ -22,7 +22,7 @@ Answers = Result (List ℕ) LinkError
 
 -- ---- one import
 
--- what answers to one import say of what was found
+-- what the results for one import say of what was found
 ok-found : (i : ℕ) (want : EntityType) (o : Option (ℕ × EntityType)) (k : ℕ) → answer_at i want o ≡ Ok k
     → IsSomeAnd o (λ (have : ℕ × EntityType). (have.0 ≡ k) × (mismatch have.1 want ≡ None))
 ok-found i want o k e = grind arith
@@ -38,7 +38,7 @@ pub found-mismatch : (i : ℕ) (want : EntityType) (o : Option (ℕ × EntityTyp
     → IsSomeAnd o (λ (have : ℕ × EntityType). mismatch have.1 want ≡ Some x) → answer_at i want o ≡ Err (error.Mismatch i x)
 found-mismatch i want o x h = grind arith
 
--- only a missing definition or one that does not match is told of an import
+-- only a missing definition or one that does not match is reported of an import
 abbrev pub IsOfImport : LinkError → Type 0
 IsOfImport (error.Missing i) = Unit {0}
 IsOfImport (error.Mismatch i x) = Unit {0}
@@ -49,12 +49,12 @@ error-of_import i want o e is = grind arith
 
 -- ---- imports in order
 
--- the answer to a first import and to those after it
+-- the result for a first import and for those after it
 abbrev pub after : Answer → Answers → Answers
 after (Ok k) rest = with_value k rest
 after (Err e) rest = Err e
 
--- with what was answered before
+-- with the earlier results
 abbrev pub before_all : List ℕ → Answers → Answers
 before_all ks (Ok others) = Ok (ks ++ others)
 before_all ks (Err e) = Err e
@@ -62,18 +62,18 @@ before_all ks (Err e) = Err e
 one-more : (ks : List ℕ) (k : ℕ) (r : Answers) → before_all (ks ++ k ∷ []) r ≡ before_all ks (with_value k r)
 one-more ks k r = grind (arith, append_assoc)
 
--- an item at a place, with its number
+-- an item at a position, with its number
 slice_get-enumerate_from : {X : Type 0} (n : ℕ) (xs : List X) (i : ℕ) → slice_get (enumerate_from n xs) i ≡ option_map (λ (x : X). (n + i, x)) (slice_get xs i)
 slice_get-enumerate_from n [] i = refl
 slice_get-enumerate_from {X} n (x ∷ xs) zero = let plus : n ≡ n + 0 = omega arith in ap (λ (m : ℕ). Some (m, x)) plus
 slice_get-enumerate_from {X} n (x ∷ xs) (suc i) = grind (arith, (slice_get-enumerate_from (n + 1) xs i))
 
--- what is left of imports, from one on
+-- the remaining imports, from one on
 left : (ws : List Definition) (i : ℕ) (w : Definition) → slice_get ws i ≡ Some w → drop i ws ≡ w ∷ drop (i + 1) ws
 left ws i w at = drop_more ws i w (slice_get_within ws i w at) ∙ ap (λ y. y ∷ drop (i + 1) ws) (get_or_from_slice_get ws i w w at)
 
 module _ (ds : List Definition) where
-  -- the answer to imports whose places begin at a number
+  -- the result for imports whose positions begin at a number
   abbrev pub run : ℕ → List Definition → Answers
   run n ws = all_values (map (answer_to ds) (enumerate_from n ws))
 
@@ -90,11 +90,11 @@ module _ (ds : List Definition) where
       by None h = absurd h
       by (Some have) h = (have.0, ap (judged n have.0) h)
 
-  -- an import that is reached behind one that is matched
+  -- an import that is reached after one that is matched
   later : (w : Definition) (ws : List Definition) (j : ℕ) (want : Definition) → IsMatched ds w → IsReached ds ws j want → IsReached ds (w ∷ ws) (suc j) want
   later w ws j want is r = grind (arith, same_Some)
 
-  -- an import at which the answer is an error is the first such
+  -- an import at which the result is an error is the first such
   pub failed : (n : ℕ) (ws : List Definition) (e : LinkError) → run n ws ≡ Err e
       → (j : ℕ) × (want : Definition) × IsReached ds ws j want × (answer_to ds (n + j, want) ≡ Err e)
   failed n [] e is = absurd cc
@@ -136,7 +136,7 @@ module _ (ds : List Definition) where
   all-matched n [] all = ([], refl)
   all-matched n (w ∷ ws) all = grind (arith, ok-matched n w (all 0 w refl), all-matched (n + 1) ws (λ i want at. all (suc i) want at), run-cons n w ws)
 
-  -- ---- the answer to the import at a place
+  -- ---- the result for the import at a position
 
   pub answer-is : (i : ℕ) (names n : TwoNames) (want t : EntityType) → names ≡ n → want ≡ t
       → answer_at i want (found ds names) ≡ answer_to ds (i, (n, t))
@@ -155,7 +155,7 @@ module _ (ds : List Definition) where
   answer-at-of_import ws i r (inl none) e other is = grind arith
   answer-at-of_import ws i r (inr told) e other is = grind (arith, answer-at, told, error-of_import)
 
-  -- ---- the import at a place, once those before it were answered
+  -- ---- the import at a position, once those before it have results
   module _ (ws : List Definition) (i : ℕ) (ks : List ℕ) (is : before_all ks (run i (drop i ws)) ≡ run 0 ws) where
     here : (w : Definition) → slice_get ws i ≡ Some w → before_all ks (after (answer_to ds (i, w)) (run (i + 1) (drop (i + 1) ws))) ≡ run 0 ws
     here w at = ap (before_all ks) (sym (run-cons i w (drop (i + 1) ws)) ∙ ap (run i) (sym (left ws i w at))) ∙ is
@@ -174,7 +174,7 @@ module _ (ds : List Definition) where
     pub ends : length ws ≤ i → run 0 ws ≡ Ok ks
     ends past = sym is ∙ ap (λ l. before_all ks (run i l)) (drop_all i ws past) ∙ ap (λ m. Ok m) (append-nil ks)
 
--- ---- what a call answers that gives the numbers, or the first error, or has no memory
+-- ---- the result of a call that gives the numbers, or the first error, or has no memory
 
 abbrev pub Found : Type 0
 Found = Result (Vec ℕ Global) LinkError
@@ -188,7 +188,7 @@ module _ (ds wants : List Definition) where
   answer-complete (Err e) (inl none) matched = inr none
   answer-complete (Err e) (inr is) matched = let ok = (all-matched ds 0 wants matched).1 in absurd cc
 
-  -- an error is told exactly where it is the answer, unless there is no memory
+  -- an error is reported exactly where it is the result, unless there is no memory
   told : (r : Found) → IsAnswer r (resolved ds wants) → (e : LinkError) → (e ≡ error.OutOfMemory → ⊥) → r ≡ Err e → resolved ds wants ≡ Err e
   told r h2 e other is = grind arith
 

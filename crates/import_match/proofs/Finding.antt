@@ -7,7 +7,7 @@ use Rattle.wasm_types.specs.declared.entity.EntityType.{EntityType}
 use Rattle.import_match.specs.Definitions.{Definition, TwoNames, names_eq, found_from, found, AreOnce}
 use Rattle.import_match.proofs.Named.{equal-names, names-equal}
 
--- ---- definitions one behind another
+-- ---- consecutive definitions
 
 -- none has the names, wherever numbers begin
 pub absent : (k : ℕ) (ds : List Definition) (n : TwoNames) → ((i : ℕ) (d : Definition) → slice_get ds i ≡ Some d → names_eq n d.0 ≡ false)
@@ -48,7 +48,7 @@ found-type P k (x ∷ ds) n i t all is =
 
 -- ---- the one definition under two names
 
--- what is found stands at its number
+-- what is found is at its number
 found-stands : (k : ℕ) (ds : List Definition) (n : TwoNames) (p : ℕ) (t : EntityType) → found_from k ds n ≡ Some (p, t)
     → (i : ℕ) × (p ≡ k + i) × (slice_get ds i ≡ Some (n, t))
 found-stands k [] n p t is = absurd (none-some (p, t) is)
@@ -65,7 +65,7 @@ found-stands k (x ∷ ds) n p t is = by (names_eq n x.0) refl is (found-stands (
         (0, omega (arith, place), λ j. Some (sym names j, type j))
     by false test h rest = let r = rest h in (suc r.0, omega (arith, r.1), r.2)
 
--- what stands under names that no earlier one has is found
+-- what is under names that no earlier one has is found
 stands-found : (k : ℕ) (ds : List Definition) (n : TwoNames) (i : ℕ) (t : EntityType) → slice_get ds i ≡ Some (n, t)
     → ((j : ℕ) (d : Definition) → j < i → slice_get ds j ≡ Some d → d.0 ≡ n → ⊥) → found_from k ds n ≡ Some (k + i, t)
 stands-found k [] n i t at before = absurd (none-some (n, t) at)

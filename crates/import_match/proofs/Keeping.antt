@@ -1,4 +1,5 @@
--- Definitions that are kept in a map by their names, in the order of their numbers, and appended one by one.
+-- Definitions that are kept in a map by their names, in the order of their numbers, and appended
+-- one by one.
 use Rattle.std.proofs.Common.{◌≡◌, ◌∙◌, ◌<◌, ℕ, suc, Bool, false, List, [], ◌∷◌, ◌++◌, length, All, Some, None, refl, ap, arith, if◌then◌else◌, zero, slice_get, sym, inl, inr, true≢false, ◌+◌, subst}
 use Rattle.std.specs.Prelude.{nat_le, filter, cond, ◌⊎◌}
 use Rattle.std.specs.BTreeMap.{is_at, insert_entry}
@@ -19,7 +20,7 @@ use Rattle.import_match.proofs.Listing.{All-slice_get, All-from_slice_get}
 use Rattle.std.proofs.lemmas.List.{map_push, length-map}
 use Rattle.import_match.specs.contracts.names.NamesOrd.TheImpl as ordered
 
--- behind those with smaller numbers
+-- after those with smaller numbers
 put-last : (e : Entry) (xs : List Entry) → All (λ (x : Entry). x.1.0 < e.1.0) xs → put e xs ≡ xs ++ e ∷ []
 put-last e [] all = refl
 put-last e (x ∷ xs) all = grind (arith, lt-leb e.1.0 x.1.0 (All-head (λ (y : Entry). y.1.0 < e.1.0) x xs all), put-last e xs (All-tail (λ (y : Entry). y.1.0 < e.1.0) x xs all))
@@ -54,7 +55,7 @@ module _ (cmp : Names → Names → Ordering) (k : Names) (v : ℕ × EntityType
   abbrev IsNewIn : List Entry → Type 0
   IsNewIn es = lookup (is_at (cmp k)) es ≡ None
 
-  -- by the order of the key and the first that stands there
+  -- by the order of the key and the first one there
   module _ (e : Entry) (es : List Entry) where
     abbrev Seen : Ordering → Type 0
     Seen o = cond (is_eq o) (Some e.1) (lookup (is_at (cmp k)) es) ≡ None
@@ -62,7 +63,8 @@ module _ (cmp : Names → Names → Ordering) (k : Names) (v : ℕ × EntityType
     abbrev inserted : Ordering → List Entry
     inserted o = match_ordering o ((k, v) ∷ e ∷ es) ((e.0, v) ∷ es) (e ∷ insert_entry cmp es k v)
 
-    -- what holds where it goes before, and behind where it holds of the others, holds
+    -- what holds of an insertion before the first, and of one after it where it holds of the
+    -- others, holds of each insertion
     by-order : (Q : List Entry → Type 0) → Q ((k, v) ∷ e ∷ es) → (IsNewIn es → Q (e ∷ insert_entry cmp es k v)) → (o : Ordering) → Seen o → Q (inserted o)
     by-order Q first behind o new = grind (arith, none-some)
 
@@ -101,7 +103,7 @@ module _ (x : Definition) (rest : List Definition) (once : AreOnce (x ∷ rest))
   other-names : (j : ℕ) (d : Definition) → slice_get rest j ≡ Some d → names_eq d.0 x.0 ≡ false
   other-names j d at = grind (arith, false_from_ne_true, equal-names, once (suc j) 0 d x)
 
-  -- the later ones stay new once the first is defined
+  -- the later ones remain new once the first is defined
   pub new-rest : (ds : List Definition) → All (IsNew ds) (x ∷ rest) → All (IsNew (ds ++ x ∷ [])) rest
   new-rest ds new =
       All-from_slice_get (IsNew (ds ++ x ∷ [])) rest
@@ -111,14 +113,14 @@ module _ (x : Definition) (rest : List Definition) (once : AreOnce (x ∷ rest))
       alone j d at zero e here = ap (λ (y : Definition). names_eq d.0 y.0) (sym (same_Some x e here)) ∙ other-names j d at
       alone j d at (suc i) e here = absurd (none-some e here)
 
--- what stands at a place once there is one more
+-- what is at a position once there is one more
 at-push : {X : Type 0} (xs : List X) (x y : X) (i : ℕ) → slice_get (xs ++ x ∷ []) i ≡ Some y → (slice_get xs i ≡ Some y) ⊎ ((i ≡ length xs) × (x ≡ y))
 at-push [] x y zero at = inr (refl, same_Some x y at)
 at-push [] x y (suc i) at = absurd (none-some y at)
 at-push (z ∷ xs) x y zero at = inl at
 at-push (z ∷ xs) x y (suc i) at = grind (arith, (at-push xs x y i at))
 
--- one more under new names stands once too
+-- one more under new names is there once too
 pub once-push : (ds : List Definition) (x : Definition) → AreOnce ds → IsNew ds x → AreOnce (ds ++ x ∷ [])
 once-push ds x once new i j d e at_i at_j same =
     elim (at-push ds x d i at_i) [
@@ -135,7 +137,7 @@ once-push ds x once new i j d e at_i at_j same =
     apart : (k : ℕ) (c : Definition) → slice_get ds k ≡ Some c → c.0 ≡ x.0 → ⊥
     apart k c at alike = true≢false (sym (names-equal x.0 c.0 (sym alike)) ∙ none-has 0 ds x.0 new k c at)
 
--- ---- definitions that are kept in a map by their names, where one more goes in
+-- ---- definitions that are kept in a map by their names, where one more is inserted
 
 pub length-in_order : (es : List Entry) → length (in_order es) ≡ length es
 length-in_order es = length-map (by_number es) entry_definition ∙ length-by_number es
@@ -157,7 +159,7 @@ module _ (es : List Entry) (kept : AreKept es) (k : Names) (t : EntityType) (new
       ≡ found (in_order es ++ d ∷ []) (names_of q)
   finds-grown q = grind (arith, equal-names, length-in_order, order-eq, found-last, names-equal, found-others, false_from_ne_true, both_ways)
 
-  -- the map with one more, as the call tells of it
+  -- the map with one more, as the call reports it
   pub kept-grown : (after : List Entry) → after ≡ grown → length after ≡ length es + 1
       → ((q : Names) → lookup (is_at (ordered.ghosts.cmp q)) after
       ≡ cond (is_eq (ordered.ghosts.cmp k q)) (Some (length es, t)) (lookup (is_at (ordered.ghosts.cmp q)) es))

@@ -51,7 +51,7 @@ export-text m from x d is = by (text_of m x.0) (entity_type m x.1) is
     by (Some own) (Some u) h = ap (λ (c : Definition). Some c.0.1) (same_Some ((from, own), u) d h)
     by _ _ h = absurd (none-some d h)
 
--- an export at a place
+-- an export at a position
 pub record ExportAt (m : ModuleRecord) (from : List ℕ) (i : ℕ) (d : Definition) : Type 0 where
   pub entry : Atom × EntityIndex
   pub at : slice_get m.exports i ≡ Some entry
@@ -117,7 +117,7 @@ module _ (m : ModuleRecord) (all : All (IsResolved m) m.initializers) where
   pub wants-length : length (wants_of m) ≡ length m.initializers
   wants-length = length-map (imports_of m m.initializers) want_of ∙ length-filter_map (import_of m) m.initializers some
 
--- an import as it is lent
+-- an import as it is borrowed
 abbrev pub Lent : Type 0
 Lent = Bor (List ℕ) × Bor (List ℕ) × EntityType
 
@@ -126,7 +126,7 @@ lent_want x = want_of (lent_import x)
 
 module _ (registry : RegistryState) (key : ModuleKey) (m : Record) (all : All (IsResolved (record_of m)) (record_of m).initializers) (k : ℕ) (o : Option Lent)
     (x : Lent) (read : option_map lent_import o ≡ option_and_then (import_of (record_of m)) (slice_get (record_of m).initializers k)) (is : o ≡ Some x) where
-  -- the import that was read at a place, as the module wants it
+  -- the import that was read at a position, as the module wants it
   pub read-at : slice_get (wants_of (record_of m)) k ≡ Some (lent_want x)
   read-at = want-at (record_of m) all k (lent_import x) (sym read ∙ ap (option_map lent_import) is)
 
@@ -151,7 +151,7 @@ module _ (registry : RegistryState) (key : ModuleKey) (m : Record) (from : List 
   abbrev pub planned : List (Atom × EntityIndex) → List Definition
   planned es = engine_definitions (registry_of registry) (key_number key) (listing es)
 
-  -- the next export is the first of those that are left
+  -- the next export is the first of the remaining ones
   module _ (it rest : List (Atom × EntityIndex)) (x : Atom × EntityIndex) (own : List ℕ) (t : EntityType) (is : it ≡ x ∷ rest)
       (text : text_of (record_of m) x.0 ≡ Some own) (type : entity_type (record_of m) x.1 ≡ Some t) where
     listing-cons : listing it ≡ ((from, own), t) ∷ listing rest

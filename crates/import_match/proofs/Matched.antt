@@ -1,4 +1,4 @@
--- Rules that all hold, and what the types are like then.
+-- What the types are where all rules hold.
 use Rattle.std.proofs.Common.{◌≡◌, ◌↔◌, ◌∙◌, ℕ, true, false, List, [], ◌∷◌, Option, None, refl, sym, ap, eq-eqb, arith}
 use Rattle.std.specs.List.{AllByRecursion}
 use Rattle.std.proofs.lemmas.Bool.{eqb-true, leb-true, le-leb}

@@ -35,7 +35,7 @@ use Rattle.import_match.specs.ModuleTypes.{types_of}
 use Rattle.import_match.proofs.Linked.{Import, want_of}
 use Rattle.import_match.proofs.Listing.{mapped, All-slice_get}
 
--- what holds of all that items give holds of what the item at a place gives
+-- what holds of all that items give holds of what the item at a position gives
 all-at : {X Y : Type 0} (P : Y → Type 0) (f : X → List Y) (xs : List X) (i : ℕ) (x : X) → All P (flat_map f xs) → slice_get xs i ≡ Some x → All P (f x)
 all-at P f xs i x all at = All-slice_get (λ y. All P (f y)) xs i x ((All-parts P f xs).0 all) at
 

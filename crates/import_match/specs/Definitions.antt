@@ -1,4 +1,5 @@
--- Definitions in order, each under two names. An import wants one: it has the same two names, and a type.
+-- Definitions in order, each under two names. An import has two names and a type, and needs a
+-- definition with the same names.
 use Rattle.std.specs.Prelude.{◌≡◌, ℕ, ◌+◌, Bool, ◌&&◌, List, [], ◌∷◌, Option, Some, None, IsSome, slice_get, if◌then◌else◌}
 use Rattle.std.specs.Str.{bytes_eq}
 use Rattle.std.specs.String.{string_bytes}
@@ -30,6 +31,6 @@ found ds names = found_from 0 ds names
 abbrev pub IsDefined : List Definition → TwoNames → Type 0
 IsDefined ds names = IsSome (found ds names)
 
--- no two definitions stand under the same two names
+-- no two definitions are under the same two names
 abbrev pub AreOnce : List Definition → Type 0
 AreOnce ds = (i j : ℕ) (d e : Definition) → slice_get ds i ≡ Some d → slice_get ds j ≡ Some e → d.0 ≡ e.0 → i ≡ j

@@ -5,6 +5,6 @@ use Rattle.wasm_types.specs.declared.entity.EntityType.{EntityType}
 use Rattle.wasm_types.specs.declared.entity.EntityType.TheVariants as entity
 use Rattle.wasm_types.specs.declared.index.EngineOrModuleTypeIndex.TheVariants.{Module}
 
--- a function whose type is the one at a place of the module's list
+-- a function whose type is the one at a position of the module's list
 abbrev pub function_of_type : ℕ → EntityType
 function_of_type i = entity.Function (Module (index_of i))

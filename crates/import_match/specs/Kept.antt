@@ -35,7 +35,7 @@ in_order es = map entry_definition (by_number es)
 abbrev pub is_below : ℕ → Entry → Bool
 is_below n e = nat_lt e.1.0 n
 
--- a map finds under two names what its definitions in order have there; no two stand under the same
+-- a map finds under two names what its definitions in order have there; no two are under the same
 -- names, and their numbers are below the count
 pub record AreKept (es : List Entry) : Type 0 where
   pub numbers : All (λ (e : Entry). e.1.0 < length es) es

@@ -8,13 +8,13 @@ use Rattle.wasm_types.specs.declared.table.Table.{Table}
 use Rattle.wasm_types.specs.declared.memory.Memory.{Memory}
 use Rattle.wasm_types.specs.declared.global.Global.{Global}
 
--- any greatest size is within none that is asked for
+-- any greatest size is within the required one, where none is required
 abbrev pub IsWithin : Option ℕ → Option ℕ → Type 0
 IsWithin have None = ⊤
 IsWithin None (Some want) = ⊥
 IsWithin (Some have) (Some want) = have ≤ want
 
--- sizes are within those that are asked for
+-- sizes are within the required ones
 pub record AreWithin (have want : Limits) : Type 0 where
   pub min : want.min ≤ have.min
   pub max : IsWithin have.max want.max

@@ -19,7 +19,7 @@ abbrev pub judged : ℕ → ℕ → Option Mismatch → Result ℕ LinkError
 judged i number None = Ok number
 judged i number (Some rule) = Err (error.Mismatch i rule)
 
--- the import at a place, and what is defined under its names
+-- the import at a position, and what is defined under its names
 abbrev pub answer_at : ℕ → EntityType → Option (ℕ × EntityType) → Result ℕ LinkError
 answer_at i want None = Err (error.Missing i)
 answer_at i want (Some have) = judged i have.0 (mismatch have.1 want)
@@ -29,7 +29,7 @@ answer_to ds want = answer_at want.0 want.1.1 (found ds want.1.0)
 
 -- ---- all imports
 
--- the answer to each import
+-- the result for each import
 abbrev pub answers : List Definition → List Definition → List (Result ℕ LinkError)
 answers ds wants = map (answer_to ds) (enumerate_from 0 wants)
 
@@ -48,22 +48,22 @@ all_values (Err e ∷ rs) = Err e
 abbrev pub resolved : List Definition → List Definition → Result (List ℕ) LinkError
 resolved ds wants = all_values (answers ds wants)
 
--- the answer of a call, as such a value
+-- the result of a call, as such a value
 abbrev pub numbers_of : Result (Vec ℕ Global) LinkError → Result (List ℕ) LinkError
 numbers_of (Ok numbers) = Ok numbers.items
 numbers_of (Err e) = Err e
 
--- it is the answer, unless there is no memory
+-- it is the result, unless there is no memory
 abbrev pub IsAnswer : Result (Vec ℕ Global) LinkError → Result (List ℕ) LinkError → Type 0
 IsAnswer r answer = IsOutOfMemory r ⊎ (numbers_of r ≡ answer)
 
--- it is the answer to the import at a place, unless there is no memory
+-- it is the result for the import at a position, unless there is no memory
 abbrev pub IsAnswerAt : Result ℕ LinkError → List Definition → List Definition → ℕ → Type 0
 IsAnswerAt r ds wants i = IsOutOfMemory r ⊎ (slice_get (answers ds wants) i ≡ Some r)
 
 -- ---- why an import fails
 
--- a definition stands under the names of the import, and matches it
+-- a definition is under the names of the import, and matches it
 abbrev pub IsMatched : List Definition → Definition → Type 0
 IsMatched ds want = IsSomeAnd (found ds want.0) (λ (have : ℕ × EntityType). mismatch have.1 want.1 ≡ None)
 
@@ -71,19 +71,19 @@ IsMatched ds want = IsSomeAnd (found ds want.0) (λ (have : ℕ × EntityType). 
 abbrev pub IsGiven : List Definition → Definition → ℕ → Type 0
 IsGiven ds want number = IsSomeAnd (found ds want.0) (λ (have : ℕ × EntityType). (have.0 ≡ number) × (mismatch have.1 want.1 ≡ None))
 
--- the import at a place, where all before it are matched
+-- the import at a position, where all before it are matched
 pub record IsReached (ds wants : List Definition) (i : ℕ) (want : Definition) : Type 0 where
   pub at : slice_get wants i ≡ Some want
   pub before : (j : ℕ) (other : Definition) → j < i → slice_get wants j ≡ Some other → IsMatched ds other
 
--- the import at a place is the first that fails, and nothing is defined under its names
+-- the import at a position is the first that fails, and nothing is defined under its names
 pub record IsMissing (ds wants : List Definition) (i : ℕ) : Type 0 where
   pub want : Definition
   pub reached : IsReached ds wants i want
   pub missing : found ds want.0 ≡ None
 
--- the import at a place is the first that fails, and what is defined under its names breaks a rule,
--- the first in the table
+-- the import at a position is the first that fails, and what is defined under its names breaks a
+-- rule, the first in the table
 pub record IsMismatched (ds wants : List Definition) (i : ℕ) (rule : Mismatch) : Type 0 where
   pub want : Definition
   pub reached : IsReached ds wants i want

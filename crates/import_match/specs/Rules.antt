@@ -37,8 +37,8 @@ HasEngineTypes t = All (λ e. IsSome (engine_index e)) (types_in t)
 abbrev pub Rule : Type 0
 Rule = Bool × Mismatch
 
--- whether a greatest size is within the one that is asked for: where none is asked for, any is;
--- where one is, none is not
+-- whether a greatest size is within the required one: where none is required, any is; where one is
+-- required, an absent one is not
 abbrev pub is_within : Option ℕ → Option ℕ → Bool
 is_within have None = true
 is_within None (Some want) = false

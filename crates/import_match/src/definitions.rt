@@ -16,8 +16,8 @@ use wasm_types::EntityType;
 type Numbered = BTreeMap<Names, (usize, EntityType)>;
 
 /// Definitions in order, no two under the same names. They are found in a map that is ordered by
-/// the names, so that whoever chooses names, a look-up compares them with no more than a few for
-/// each doubling of the count.
+/// the names. So a look-up makes only a few comparisons of names for each doubling of the count,
+/// whoever chooses the names.
 #[derive(Drop)]
 pub(crate) struct Definitions {
     numbered: Numbered,
@@ -36,7 +36,7 @@ impl Model for Definitions {
 }
 
 impl Definitions {
-    /// None.
+    /// No definitions.
     pub(crate) fn new(alloc: Global) -> Definitions
         ensures { result ≡ [] }
     {
@@ -71,7 +71,7 @@ impl Definitions {
         insert(&mut self.numbered, names, ty)
     }
 
-    /// Appends definitions under names that are new, or none where memory ends.
+    /// Appends definitions under names that are new, or none where memory runs out.
     pub(crate) fn append_all(&mut self, planned: Vec<(Names, EntityType)>) -> Result<(), AllocError>
         requires new { All (λ (d : Definition). found self.old d.0 ≡ None) (map definition_of planned.items) }
         requires once { AreOnce (map definition_of planned.items) }
@@ -105,8 +105,8 @@ fn insert(numbered: &mut Numbered, names: Names, ty: EntityType) -> Result<usize
     Ok(number)
 }
 
-/// Inserts definitions under names that are new, in order. Where memory ends, those that stood
-/// before are the entries whose numbers are below their count.
+/// Inserts definitions under names that are new, in order. Where memory runs out, the earlier ones
+/// are the entries whose numbers are below their count.
 fn insert_all(numbered: &mut Numbered, planned: Vec<(Names, EntityType)>) -> Result<(), AllocError>
     requires kept { AreKept numbered.old.entries }
     requires new { All (λ (d : Definition). found (in_order numbered.old.entries) d.0 ≡ None) (map definition_of planned.items) }

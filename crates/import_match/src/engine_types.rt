@@ -13,7 +13,8 @@ use wasm_index::{ModuleInternedTypeIndex, VMSharedTypeIndex};
 use wasm_trace::TypeTrace;
 use wasm_types::EntityType;
 
-/// The type of an entity of a held module, with the engine's index in place of each of the module's.
+/// The type of an entity of a held module, with the engine's index in place of each of the
+/// module's.
 pub(crate) fn with_engine_types(
     registry: &TypeRegistry,
     key: ModuleKey,

@@ -7,7 +7,7 @@ use std::alloc::{AllocError, AllocFailed};
 use thiserror::Error;
 
 /// The rule of matching that a definition breaks: one variant a rule, in the order in which the
-/// rules are asked (core specification, 3.3, external types).
+/// rules are checked (core specification, 3.3, external types).
 #[derive(Clone, Copy, Debug, Drop, PartialEq, Eq, Error)]
 pub enum Mismatch {
     /// A definition of another kind.
@@ -22,10 +22,10 @@ pub enum Mismatch {
     /// A table with indices of another type.
     #[error("the index types of the tables differ")]
     TableIndexType,
-    /// A table that may be smaller than the least size that is asked for.
+    /// A table that may be smaller than the required least size.
     #[error("the table is too small")]
     TableMin,
-    /// A table that may grow past the greatest size that is asked for.
+    /// A table that may grow past the greatest allowed size.
     #[error("the table may grow too large")]
     TableMax,
     /// A memory with indices of another type.
@@ -37,10 +37,10 @@ pub enum Mismatch {
     /// A memory with pages of another size.
     #[error("the page sizes differ")]
     MemoryPage,
-    /// A memory that may be smaller than the least size that is asked for.
+    /// A memory that may be smaller than the required least size.
     #[error("the memory is too small")]
     MemoryMin,
-    /// A memory that may grow past the greatest size that is asked for.
+    /// A memory that may grow past the greatest allowed size.
     #[error("the memory may grow too large")]
     MemoryMax,
     /// One of the globals can be written, the other not.
@@ -57,16 +57,16 @@ pub enum Mismatch {
 /// Why a call of a linker is refused. The linker is as it was before.
 #[derive(Clone, Copy, Debug, Drop, PartialEq, Eq, Error)]
 pub enum LinkError {
-    /// Something is defined under the two names already.
+    /// Something is already defined under the two names.
     #[error("defined already")]
     Duplicate,
     /// The registry holds no module under the key.
     #[error("no such module is held")]
     NotHeld,
-    /// Nothing is defined under the names of the import at this place, counted from 0.
+    /// Nothing is defined under the names of the import at this position, counted from 0.
     #[error("import {0} is not defined")]
     Missing(usize),
-    /// What is defined under the names of the import at this place does not match it.
+    /// What is defined under the names of the import at this position does not match it.
     #[error("import {0} does not match its definition: {1}")]
     Mismatch(usize, Mismatch),
     /// A list or a map found no memory.
@@ -82,7 +82,7 @@ pub struct ImportRefused<'a> {
     pub from: &'a str,
     /// Its own name there.
     pub own: &'a str,
-    /// What the linker answered.
+    /// The linker's result.
     pub cause: LinkError,
 }
 
@@ -106,7 +106,7 @@ impl From<AllocError> for LinkError {
     }
 }
 
-/// The value that found no room is dropped.
+/// The value that found no memory is dropped.
 impl<T: Drop> From<AllocFailed<T>> for LinkError {
     ghost use Rattle.import_match.specs.declared.error.LinkError.TheVariants as errors;
 

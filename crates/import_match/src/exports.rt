@@ -1,4 +1,4 @@
-//! The definitions that the exports of a module make.
+//! The definitions that the exports of a module give.
 
 ghost use Rattle.std.specs.Prelude.{◌≡◌, ◌⊎◌, map, All, Any, None, IfOk, IfErr};
 ghost use Rattle.import_match.specs.declared.error.LinkError.TheVariants as refused;
@@ -16,7 +16,7 @@ use type_registry::{ModuleKey, TypeRegistry};
 use wasm_module::Module;
 use wasm_types::EntityType;
 
-/// The definitions that the exports of a held module make, in order, as long as nothing is defined
+/// The definitions that the exports of a held module give, in order, as long as nothing is defined
 /// under the names of any.
 pub(crate) fn planned_exports(
     alloc: Global,
@@ -35,7 +35,7 @@ pub(crate) fn planned_exports(
     ensures err { IfErr result (λ e. (e ≡ refused.OutOfMemory) ⊎ ((e ≡ refused.Duplicate)
         × Any (λ (d : Definition). IsDefined definitions.now d.0) (exported registry.now key «module».now as_module.now))) }
 {
-    // The pool says of its length that no text has two atoms, so no two exports have one name.
+    // The pool's length implies that no text has two atoms, so no two exports have one name.
     let _texts = module.strings.len();
     let mut planned = Vec::with_capacity(alloc, module.exports.len())?;
     for (name, entity) in module.exports.iter() {

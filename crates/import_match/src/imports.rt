@@ -17,7 +17,8 @@ use type_registry::{ModuleKey, TypeRegistry};
 use wasm_module::Module;
 use wasm_types::EntityType;
 
-/// The number of the definition under the names of the import at a place, if it matches the type.
+/// The number of the definition under the names of the import at a position, if it matches the
+/// type.
 fn answer(
     definitions: &Definitions,
     names: &Names,
@@ -37,8 +38,8 @@ fn answer(
     }
 }
 
-/// The number of the definition of the import at a place of a held module. The names give room for
-/// those of the import.
+/// The number of the definition of the import at a position of a held module. The memory of `names`
+/// is reused for the names of the import.
 pub(crate) fn resolve_at(
     definitions: &Definitions,
     registry: &TypeRegistry,

@@ -20,19 +20,20 @@ use type_registry::same_law;
 use wasm_module::Module;
 
 /// A definition breaks no rule exactly where it matches: types, index types, sharing, page sizes
-/// and mutability are equal, and sizes are within those that are asked for.
+/// and mutability are equal, and sizes are within the required ones.
 pub fn matching_law()
     ensures { (have want : EntityType) → (mismatch have want ≡ None) ↔ Matches have want }
 {}
 
-/// Where no two definitions stand under the same names, one is found by its two names exactly at its number.
+/// Where no two definitions are under the same names, one is found by its two names exactly at its
+/// number.
 pub fn definition_law()
     ensures { (ds : List Definition) → AreOnce ds → (n : TwoNames) (i : ℕ) (t : EntityType)
         → (found ds n ≡ Some (i, t)) ↔ (slice_get ds i ≡ Some (n, t)) }
 {}
 
 /// While two modules are held in one registry, a function of one matches an import of the other
-/// exactly where their types are equal by group and place.
+/// exactly where their types are equal by group and position.
 pub fn function_law()
     ensures { (r : Registry) (a b : ℕ) (l k : TypeList) → Listed l → Listed k → Stands r a l → Stands r b k
         → (i j : ℕ) → i < length l.types → j < length k.types

@@ -22,8 +22,8 @@ use wasm_module::Module;
 use wasm_types::EntityType;
 
 /// Named definitions, in order, from which the imports of modules are resolved. Their types are
-/// those of one engine: the caller gives one registry throughout, and keeps the modules held whose
-/// types stand here, so that equal indices are equal types.
+/// those of one engine. The caller uses one registry throughout, and keeps the modules held whose
+/// types occur here, so that equal indices are equal types.
 #[derive(Drop)]
 pub struct Linker {
     alloc: Global,
@@ -66,7 +66,8 @@ impl Linker {
     /// of the definition, counted from 0. The types that it names must be the engine's.
     ///
     /// # Errors
-    /// `Duplicate` where something is defined under these names; `OutOfMemory`. The linker is unchanged then.
+    /// `Duplicate` where something is defined under these names; `OutOfMemory`. The linker is
+    /// unchanged then.
     pub fn define(&mut self, module: &str, name: &str, ty: EntityType) -> Result<usize, LinkError>
         requires { HasEngineTypes ty }
         ensures number { IfOk result (λ number. number ≡ length self.old) }
@@ -118,9 +119,10 @@ impl Linker {
     /// two names, which matches it.
     ///
     /// # Errors
-    /// `NotHeld` where the registry holds no module under the key, before all others; of the first
-    /// import that fails `Missing` with its place where nothing is defined under its names, and
-    /// else `Mismatch` with its place and the first rule that its definition breaks; `OutOfMemory`.
+    /// `NotHeld` where the registry holds no module under the key, before all others. Of the first
+    /// import that fails, `Missing` with its position where nothing is defined under its names, and
+    /// else `Mismatch` with its position and the first rule that its definition breaks.
+    /// `OutOfMemory`.
     pub fn resolve(
         &self,
         alloc: Global,
@@ -131,7 +133,7 @@ impl Linker {
         requires { CanImport registry.now key «module».now }
         ensures answer { IsHeld registry.now key → IsAnswer result (resolved self.now (wanted registry.now key «module».now)) }
 
-        // What the answer says, each cause both ways.
+        // What the result says: each cause in both directions.
         ensures given { IfOk result (λ numbers. AreGiven self.now (wanted registry.now key «module».now) numbers.items) }
         ensures complete { IsHeld registry.now key → AreMatched self.now (wanted registry.now key «module».now)
             → IsOk result ⊎ IsOutOfMemory result }
@@ -150,8 +152,8 @@ impl Linker {
         resolve_imports(alloc, definitions, registry, key, module)
     }
 
-    /// The number of the definition of one import of a held module, by its place: the one under its
-    /// two names, which matches it.
+    /// The number of the definition of one import of a held module, by its position: the one under
+    /// its two names, which matches it.
     ///
     /// # Errors
     /// `NotHeld`, `Missing` and `Mismatch` as by `resolve`, of this import alone; `OutOfMemory`.

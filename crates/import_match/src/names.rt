@@ -1,4 +1,4 @@
-//! The two names under which a definition stands.
+//! The two names of a definition.
 
 ghost use Rattle.std.specs.Prelude.{◌≡◌, IfOk, OnOk};
 ghost use Rattle.std.specs.String.{string_bytes};
@@ -58,7 +58,7 @@ impl Names {
         })
     }
 
-    /// Takes other names, in the memory of those before.
+    /// Replaces the names by others, in the same memory.
     pub(crate) fn set(&mut self, from: &str, own: &str) -> Result<(), AllocError>
         ensures { OnOk result (names_of self.new ≡ (from.now, own.now)) }
     {

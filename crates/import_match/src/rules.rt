@@ -6,7 +6,7 @@ ghost use Rattle.import_match.specs.Rules.{is_within, first_broken, function_rul
 use crate::error::Mismatch;
 use wasm_types::{EngineOrModuleTypeIndex, EntityType, Global, Memory, Table, Tag};
 
-/// Whether a greatest size is within the one that is asked for. Any size is within none.
+/// Whether a greatest size is within the required one. Where none is required, any size is.
 fn is_within(have: Option<u64>, want: Option<u64>) -> bool
     ensures { result ≡ is_within have want }
 {
@@ -77,9 +77,9 @@ fn tag_rules(have: &Tag, want: &Tag) -> Option<Mismatch>
     first_broken(&[(have.signature == want.signature, Mismatch::TagType)])
 }
 
-/// The first rule that a definition breaks that is given for an import, in the order of
-/// [`Mismatch`]; none where it matches (core specification, 3.3, external types). Types are
-/// compared by the engine's indices, so subtypes do not match.
+/// The first rule that the given definition breaks for an import, in the order of [`Mismatch`];
+/// none where it matches (core specification, 3.3, external types). Types are compared by the
+/// engine's indices, so subtypes do not match.
 pub fn match_entity(have: &EntityType, want: &EntityType) -> Option<Mismatch>
     requires have { HasEngineTypes have.now }
     requires want { HasEngineTypes want.now }

@@ -10,7 +10,7 @@ ghost use Rattle.import_match.specs.Worked.{memory, global};
 
 use wasm_types::WasmValType;
 
-/// A memory is wanted of one page at least and two at most.
+/// The import requires a memory of one page at least and two at most.
 pub fn worked_memories()
     ensures within { mismatch (memory 2 (Some 2)) (memory 1 (Some 2)) ≡ None }
     ensures open { mismatch (memory 1 None) (memory 1 (Some 2)) ≡ Some rule.MemoryMax }
@@ -19,7 +19,7 @@ pub fn worked_memories()
     ensures any { mismatch (memory 1 None) (memory 1 None) ≡ None }
 {}
 
-/// A global of 32 bits is wanted that cannot be written.
+/// The import requires a global of 32 bits that cannot be written.
 pub fn worked_imports()
     ensures given { resolved (global WasmValType.I32 false ∷ []) (global WasmValType.I32 false ∷ []) ≡ Ok (0 ∷ []) }
     ensures mutable { resolved (global WasmValType.I32 true ∷ []) (global WasmValType.I32 false ∷ []) ≡ Err (refused.Mismatch 0 rule.GlobalMutability) }

@@ -17,7 +17,7 @@ fn definitions_are_numbered_in_order(rt: HostRuntime) -> Result<(), Fail> {
     assert!(rt; linker.len() == 0);
     assert!(rt; linker.define("m", "g", ANSWER)? == 0);
     assert!(rt; linker.define("m", "h", ANSWER)? == 1);
-    // Where one name ends and the other begins counts.
+    // The boundary between the two names matters.
     assert!(rt; linker.define("mg", "", ANSWER)? == 2);
     assert!(rt; linker.define("", "mg", ANSWER)? == 3);
     assert!(rt; linker.len() == 4);

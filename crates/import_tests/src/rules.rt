@@ -36,7 +36,7 @@ const GLOBAL: Global = Global {
     mutability: false,
 };
 
-/// What matching answers is as expected.
+/// The result of matching is as expected.
 fn expect(rt: &impl Abort, have: EntityType, want: EntityType, expected: Option<Mismatch>)
     requires have { HasEngineTypes have }
     requires want { HasEngineTypes want }
@@ -89,15 +89,15 @@ fn sizes_are_within_those_that_are_asked_for(rt: HostRuntime) {
     let small = (Some(Mismatch::MemoryMin), Some(Mismatch::TableMin));
     let large = (Some(Mismatch::MemoryMax), Some(Mismatch::TableMax));
     for (min, max, want_max, (memory, table)) in [
-        // A least size of 2 is asked for: it is equal, one more, one less.
+        // The import's least size is 2: the definition's is equal, one more, one less.
         (2, Some(4), Some(4), fits),
         (3, Some(4), Some(4), fits),
         (1, Some(4), Some(4), small),
-        // A greatest size of 4 is asked for: it is one less, one more, none.
+        // The import's greatest size is 4: the definition's is one less, one more, none.
         (2, Some(3), Some(4), fits),
         (2, Some(5), Some(4), large),
         (2, None, Some(4), large),
-        // None is asked for.
+        // The import has no greatest size.
         (2, Some(4), None, fits),
         (2, Some(u64::MAX), None, fits),
         (2, None, None, fits),
@@ -242,8 +242,8 @@ fn the_first_broken_rule_is_named(rt: HostRuntime) {
     }
 }
 
-// Of what is equal neither side may be more: the three rules of memories, the two of tables and of
-// globals the other way.
+// Of parts that must be equal neither side may be greater: the three rules of memories, the two of
+// tables and of globals, with the sides swapped.
 #[test]
 fn rules_of_equal_parts_have_no_sides(rt: HostRuntime) {
     for broken in 0..8 {
@@ -304,7 +304,7 @@ fn functions_and_tags_have_one_index(rt: HostRuntime) {
     expect(&rt, function(6), function(6), None);
     expect(&rt, function(7), function(6), of_function);
     expect(&rt, tag(6, 6), tag(6, 6), None);
-    // The objects that carry an exception do not count.
+    // The objects that carry an exception are not compared.
     expect(&rt, tag(6, 7), tag(6, 6), None);
     expect(&rt, tag(7, 6), tag(6, 6), Some(Mismatch::TagType));
 }

@@ -1,4 +1,4 @@
--- What registrations and releases leave of the counts of held modules.
+-- The effect of registrations and releases on the counts of held modules.
 use Rattle.std.proofs.Common.{◌≡◌, ◌∙◌, ◌<◌, ℕ, inl, Bool, true, false, Option, Some, None, length, nat_eq, refl, sym, ap, subst, arith}
 use Rattle.std.specs.Prelude.{IsSome, IfSome, if◌then◌else◌}
 use Rattle.std.specs.Option.{option_map}

@@ -1,4 +1,4 @@
-//! Modules whose imports are given definitions of the engine's own, and those of a linked program.
+//! Modules whose imports get definitions of the engine's own, and those of a linked program.
 
 ghost use Rattle.import_match.specs.Rules.{HasEngineTypes};
 ghost use Rattle.plan_link.specs.Linkable.{IsLinkable};
@@ -12,7 +12,8 @@ use std::test::Fail;
 use wasm_module::Module;
 use wasm_types::{EntityType, Global, IndexType, Limits, Memory, WasmValType};
 
-/// It imports the global `g` of `m`, an i32 that cannot be written, and defines one that is one more.
+/// It imports the global `g` of `m`, an i32 that cannot be written, and defines one that is one
+/// greater.
 const GLOBAL_IMPORTER: [u8; 29] = [
     0x00, 0x61, 0x73, 0x6D, 0x01, 0x00, 0x00, 0x00, 0x02, 0x08, 0x01, 0x01, 0x6D, 0x01, 0x67, 0x03,
     0x7F, 0x00, 0x06, 0x09, 0x01, 0x7F, 0x00, 0x23, 0x00, 0x41, 0x01, 0x6A, 0x0B,
@@ -194,7 +195,7 @@ fn the_start_of_a_linked_program_is_found(rt: HostRuntime) -> Result<(), Fail> {
     Ok(())
 }
 
-/// What a linker says where the exports of a module are defined, defined again, and defined once
+/// What a linker returns where the exports of a module are defined, defined again, and defined once
 /// the module was released; and its length at the end.
 #[derive(Drop)]
 struct Defined {

@@ -30,7 +30,7 @@ pub(crate) const PLAIN: Tunables = Tunables {
     signals_based_traps: false,
 };
 
-// The translation of the module that the bytes spell. Its types stand in the builder.
+// The translation of the module that the bytes spell. The builder holds its types.
 fn translation_of<'d>(
     alloc: Global,
     validator: &Validator,
@@ -69,7 +69,8 @@ pub(crate) fn new_registry(alloc: Global) -> TypeRegistry
     TypeRegistry::new(alloc, 10)
 }
 
-/// Holds a module of these types. Its list is as long, and those of others stay so.
+/// Holds a module of these types. Its list has the same length, and the lists of others are
+/// unchanged.
 pub(crate) fn register(
     registry: &mut TypeRegistry,
     types: &ModuleTypes,

@@ -38,7 +38,7 @@ pub(crate) const SECOND: [u8; 60] = [
     0x01, 0x6D, 0x01, 0x66, 0x00, 0x01, // a function
 ];
 
-// The places of bytes of the second module, by what they say.
+// The offsets of bytes of the second module, by their meaning.
 pub(crate) const TAG_NAME: usize = 26;
 
 const TAG_TYPE: usize = 29;
@@ -70,7 +70,8 @@ const FUNCTION_TYPE: usize = 59;
 /// What resolving the imports of a module gives, where the exports of another are defined.
 pub(crate) type Resolved = Result<Vec<usize>, LinkError>;
 
-// Registers both modules, defines the exports of the first under `m`, and resolves the imports of the second.
+// Registers both modules, defines the exports of the first under `m`, and resolves the imports of
+// the second.
 fn link(
     alloc: Global,
     first: &Module,
@@ -119,7 +120,7 @@ fn imports_get_the_exports_under_their_names(rt: HostRuntime) -> Result<(), Fail
     Ok(())
 }
 
-// The second module with another byte at a place is refused so, or linked as before.
+// The second module with another byte at an offset is refused so, or linked as before.
 fn expect(
     rt: &impl Abort,
     alloc: Global,

@@ -1,4 +1,4 @@
--- Hints of functions, of which the first entry counts, entered one after another.
+-- Hints of functions, entered one after another; the first entry of a function counts.
 use Rattle.std.proofs.Common.{◌≡◌, ℕ, List, [], ◌∷◌, ◌++◌, map, true, false, cond, eqb, nat_eq, Option, Some, None, refl, sym, ap, subst, ◌∙◌, inl, inr}
 use Rattle.std.specs.BTreeMap.{BTreeMap}
 use Rattle.std.specs.Global.{Vec}

@@ -1,4 +1,4 @@
--- The first entry of a function, where one more stands after the others.
+-- The first entry of a function, where one more is appended to the others.
 use Rattle.std.proofs.Common.{◌≡◌, ℕ, List, [], ◌∷◌, ◌++◌, Bool, true, false, cond, eqb, Option, Some, None, refl, sym, subst, ◌∙◌, inl, inr}
 use Rattle.std.specs.Option.{option_or}
 use Rattle.std.specs.Map.{lookup}

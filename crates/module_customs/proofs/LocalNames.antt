@@ -50,7 +50,7 @@ had-locals names had kept is are = (subst (AreLocals names) is are).1
 pub no-locals-yet : (names : List (ℕ × List ℕ)) (had : Option (BTreeMap ℕ Text)) → had ≡ None → AreLocals names had → names ≡ []
 no-locals-yet names had is are = subst (AreLocals names) is are
 
--- what is written over what was taken out is written over what was there
+-- writing over an entry that was removed gives what writing over it in place gives
 pub written-twice : {X : Type 0} (f : ℕ) (v : X) (old between new : ℕ → Option X) → ((n : ℕ) → between n ≡ cond (eqb f n) None (old n))
     → ((n : ℕ) → new n ≡ cond (eqb f n) (Some v) (between n)) → (n : ℕ) → new n ≡ cond (eqb f n) (Some v) (old n)
 written-twice {X} f v old between new removed added n = added n ∙ ap (cond (eqb f n) (Some v)) (removed n) ∙ by (eqb f n) where

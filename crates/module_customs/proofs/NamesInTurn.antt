@@ -118,7 +118,7 @@ pub named-more : (new : Option Text) (name : Text) (before : Option (List ℕ)) 
     → Some name.now ≡ option_or (option_map now new) before
 named-more new name before is = sym (ap (λ o. option_or (option_map now o) before) is)
 
--- with no name the one before stays
+-- without a name, the earlier one remains
 pub named-same : (new : Option Text) (before : Option (List ℕ)) (kept : Option Text) → ((name : Text) → new ≡ Some name → ⊥)
     → option_map now kept ≡ before → option_map now kept ≡ option_or (option_map now new) before
 named-same None before kept none had = had

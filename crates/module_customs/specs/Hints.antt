@@ -10,18 +10,18 @@ use Rattle.module_customs.specs.Kept.{kept_hint}
 use Rattle.init_plan.specs.declared.debug_info.BranchHint.{BranchHint}
 use Rattle.module_customs.specs.Names.{contents_of}
 
--- functions with their hints, in the order in which they stand
+-- functions with their hints, in the order of the section
 abbrev pub HintLists : Type 0
 HintLists = List (ℕ × List Hint)
 
--- what the contents of a section of hints say: all, or with a fault anywhere nothing
+-- what the contents of a section of hints give: all, or with a fault anywhere nothing
 abbrev pub hints_in : Option (List ℕ) → Option HintLists
 hints_in contents = option_and_then hints_of_section contents
 
 abbrev pub hint_lists : plain.Payload → Option HintLists
 hint_lists p = hints_in (contents_of (codes "metadata.code.branch_hint") p)
 
--- the last of some, and one that stands where there is none
+-- the last of some, and the default where there is none
 abbrev pub last_or : {X : Type 0} → X → List X → X
 last_or x [] = x
 last_or x (y ∷ ys) = last_or y ys

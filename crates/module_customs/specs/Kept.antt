@@ -1,16 +1,16 @@
--- Which names and hints are kept of those that stand in a section.
+-- Which names and hints of a section are kept.
 use Rattle.std.specs.Prelude.{ℕ, List, reverse, ◌==◌, nat_eq, Option, None, if◌then◌else◌}
 use Rattle.std.specs.Map.{lookup}
 
--- the value that the last entry of an index has
+-- the value of the last entry of an index
 abbrev pub last_at : {X : Type 0} → List (ℕ × X) → ℕ → Option X
 last_at entries index = lookup (nat_eq index) (reverse entries)
 
--- the value that the first entry of an index has
+-- the value of the first entry of an index
 abbrev pub first_at : {X : Type 0} → List (ℕ × X) → ℕ → Option X
 first_at entries index = lookup (nat_eq index) entries
 
--- the number that stands for no function
+-- the number that represents no function
 abbrev pub no_function : ℕ
 no_function = 4294967295
 

@@ -30,7 +30,7 @@ abbrev pub contents_of : List ℕ → plain.Payload → Option (List ℕ)
 contents_of title (plain.Custom name bytes) = if bytes_eq name title then Some bytes else None
 contents_of title _ = None
 
--- what the contents of a name section say, those of locals where they are asked for
+-- what the contents of a name section give, with the names of locals where the caller requires them
 abbrev pub names_in : Bool → Option (List ℕ) → NameLists
 names_in locals (Some bytes) = names_of_section locals bytes
 names_in locals None = no_names
@@ -43,7 +43,7 @@ below bound entries = filter (λ e. nat_lt e.0 bound) entries
 abbrev pub names_below : ℕ → NameLists → NameLists
 names_below bound names = record names { functions = below bound names.functions; locals = below bound names.locals }
 
--- what a section says after others: it names the functions that these declare
+-- what a section gives after others: it names the functions that these declare
 abbrev pub names_behind : Bool → List plain.Payload → plain.Payload → NameLists
 names_behind locals before p = names_below (length (plain.functions before)) (names_in locals (contents_of (codes "name") p))
 
@@ -59,7 +59,7 @@ module_names locals m = names_after locals [] m
 abbrev pub local_names : List (ℕ × List (ℕ × List ℕ)) → ℕ → List (ℕ × List ℕ)
 local_names entries function = flat_map (λ e. if e.0 == function then e.1 else []) entries
 
--- ---- as a translation has them
+-- ---- in the form of a translation
 
 abbrev pub Text : Type 0
 Text = Bor (List ℕ)
@@ -68,11 +68,11 @@ Text = Bor (List ℕ)
 abbrev pub named : Index FuncSpace × Text → ℕ × List ℕ
 named entry = (number_of entry.0, entry.1.now)
 
--- what a walk through names has left
+-- what remains of an iteration over names
 abbrev pub names_left : DeclaredNames → List (ℕ × List ℕ)
 names_left walk = below walk.declared (map text_of walk.names.now)
 
--- what a map has at the key of a number
+-- the entry of a map at the key of a number
 abbrev pub at_number : {K X : Type 0} → (K → ℕ) → BTreeMap K X → ℕ → Option X
 at_number number kept n = lookup (λ key. nat_eq n (number key)) kept.entries
 

@@ -41,7 +41,7 @@ fn last_hints(alloc: Global, source: Source<'_, '_>) -> Result<Vec<(u32, Vec<Hin
     Ok(last)
 }
 
-/// The entries that count after a section: its own, and where it has none or a fault those that
+/// The entries that count after a section: its own, or, where it has none or a fault, those that
 /// counted before.
 fn entries_after(
     before: Vec<(u32, Vec<Hint>)>,
@@ -68,7 +68,7 @@ fn hints_in(
     }
 }
 
-/// Hints by their functions, of which the first entry counts.
+/// Hints by their functions; the first entry of a function counts.
 fn by_function(
     alloc: Global,
     entries: &[(u32, Vec<Hint>)],

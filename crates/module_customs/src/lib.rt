@@ -1,7 +1,7 @@
 //! Names, branch hints and signs of debug information of a module, for `module_environ`.
 //!
 //! `kept_names` and `kept_hints` return what the custom sections give, in the order of the file. A
-//! fault in such a section ends its names, or drops its hints, and refuses no module.
+//! fault in such a section ends its names, or drops its hints. No fault refuses a module.
 //!
 //! ```
 //! let source = Source::Form(&form);
@@ -10,7 +10,7 @@
 //! let debug = has_debug_section(source);
 //! ```
 //!
-//! Names stay slices of the input. The only error is `OutOfMemory`.
+//! Names remain slices of the input. The only error is `OutOfMemory`.
 //!
 //! Read on: `names`, `hints`, `debug`; `custom_sections` reads the contents of a section.
 #![tactic(auto)]

@@ -25,8 +25,8 @@ use wasm_index::FuncIndex;
 use wasm_spec::TypeRef;
 
 /// The names of the module, its functions and their locals, as the name sections give them (core
-/// specification, appendix, name section): those of locals are read where they are asked for, and
-/// the name of a function is kept where the function is declared before its section.
+/// specification, appendix, name section). Names of locals are read where the caller requires them.
+/// The name of a function is kept where the function is declared before its section.
 pub fn kept_names<'d>(
     alloc: Global,
     source: Source<'_, 'd>,
@@ -79,7 +79,7 @@ pub(crate) fn contents_named<'d>(section: Single<'_, 'd>, title: &str) -> Option
     }
 }
 
-/// The contents of a custom section, if it has the name that is asked for.
+/// The contents of a custom section, if it has the requested name.
 fn contents_if<'d>(name: &str, bytes: &'d [u8], title: &str) -> Option<&'d [u8]>
     ensures { option_map (λ contents. contents.now) result ≡ contents_of title.now (plain.Custom name.now bytes.now) }
 {
@@ -203,7 +203,8 @@ fn enter_names<'d>(
     Ok(())
 }
 
-/// Adds the names of the locals of functions that are declared; a later name replaces an earlier one.
+/// Adds the names of the locals of functions that are declared; a later name replaces an earlier
+/// one.
 fn add_locals<'d>(
     alloc: Global,
     kept: &mut BTreeMap<FuncIndex, BTreeMap<u32, &'d str>>,

@@ -14,7 +14,7 @@ pub fn worked_names()
     ensures later_name { last_at (module_names false (one_import ∷ named 0x66 ∷ named 0x67 ∷ [])).functions 0 ≡ Some (codes "g") }
 {}
 
-/// A section of hints of function 0, and one after it: whole, or cut.
+/// A section of hints of function 0, and one after it: complete, or cut.
 pub fn worked_hints()
     ensures last_counts { module_hints (hinted (0x01 ∷ 0x00 ∷ 0x01 ∷ 0x05 ∷ 0x01 ∷ 0x01 ∷ []) ∷ hinted (0x01 ∷ 0x00 ∷ 0x00 ∷ []) ∷ [])
         ≡ (0, []) ∷ [] }

@@ -84,7 +84,8 @@ params-declared m well =
     let d = get_or ds i x in
     params-below count d.group_end d.type.composite.inner (groups-end count 0 (plain.groups m) (omega arith) i x lt) (well i x lt).indices))
 
--- of a list that has what the types are looked up to, the entry at the type of a function has its parameters
+-- of a list that has what the types are looked up to, the entry at the type of a function has its
+-- parameters
 module _ (look : LookUp) (l : rule.Lists) {X : Type 0} (see : X → List (Value Name)) (xs : List X) (listed : map see xs ≡ params_of_types look l)
     (fs : List ℕ) (f t d : ℕ) (same : fs ≡ l.functions) (lt : f < length fs) (is : t ≡ get_or fs f d) where
   entry : unwrap_or (option_map see (slice_get xs t)) [] ≡ map (map_value look) (params_at l f)

@@ -1,4 +1,4 @@
--- Why bytes have no translation, by what each step tells, and the translation of what was read.
+-- Why bytes have no translation, by the result of each step, and the translation of what was read.
 use Rattle.std.proofs.Common.{◌≡◌, ◌∙◌, ◌+◌, ◌≤◌, ◌^◌, ℕ, Bool, inl, inr, List, length, map, Result, Ok, Err, sym, ap, subst, arith}
 use Rattle.std.specs.Prelude.{◌↔◌}
 use Rattle.std.specs.List.{flat_map}

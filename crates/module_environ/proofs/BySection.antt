@@ -5,7 +5,7 @@ use Rattle.std.specs.List.{flat_map}
 use Rattle.std.proofs.lemmas.List.{append-nil, length-map, map_more, map_push, take_more, get_or-map}
 use Rattle.std.proofs.lemmas.List.Concat.{flat_map-append}
 
--- what is true of each item as it is seen
+-- what is true of each item as it is viewed
 pub at-item : {X Y : Type 0} (P : Y → Type 0) (view : X → Y) (xs : List X) (i : ℕ) (x : X) → i < length xs → x ≡ get_or xs i x
     → All P (map view xs) → P (view x)
 at-item P view xs i x lt is all =

@@ -49,7 +49,7 @@ pub function-is : (c : Composite (Named ℕ) ℕ) → kind_of_type c ≡ FuncNam
 function-is (Func f) e = refl
 function-is _ e = absurd (cc)
 
--- a declared function type, read by places
+-- a declared function type, read by position
 pub record IsFunctionAt (ts : List (SubType ℕ ℕ)) (i count : ℕ) : Type 0 where
   pub lt : i < count
   pub kind : kind_of_type (get_or ts i some_type).composite.inner ≡ FuncName

@@ -1,5 +1,5 @@
--- While a module's types are interned and nothing else was made of them, each is looked up as the
--- definition of a translation has it.
+-- While a module's types are interned and nothing else was built from them, each is looked up as
+-- the definition of a translation has it.
 use Rattle.std.proofs.Common.{◌≡◌, ◌∙◌, ◌<◌, ◌≤◌, ℕ, zero, suc, Some, List, [], ◌∷◌, length, map, refl, sym, ap, subst, arith, inl, inr}
 use Rattle.std.specs.Prelude.{slice_get, option_and_then, unwrap_or, IsSome}
 use Rattle.std.proofs.lemmas.Bool.{cases_lt}

@@ -1,4 +1,5 @@
--- Exception types in turn: what a builder makes of function types is what the definition makes of them.
+-- Exception types in turn: what a builder makes of function types is what the definition makes of
+-- them.
 use Rattle.std.proofs.Common.{◌≡◌, ◌∙◌, ◌≤◌, ℕ, suc, ◌+◌, Bool, true, false, nat_eq, Some, None, List, [], ◌∷◌, ◌++◌, length, position, refl, sym, ap, subst, arith, length-append, append_assoc}
 use Rattle.std.specs.Prelude.{◌==◌, unwrap_or, if◌then◌else◌}
 use Rattle.std.specs.List.{fold, list_any, position_from, position_or_len}
@@ -10,7 +11,7 @@ use Rattle.entity_map.specs.Firsts.{with_first, firsts, firsts_after}
 use Rattle.type_spec.specs.Interned.{Interned, Built, plain, exception_for, composite_at, with_exception, with_exceptions}
 use Rattle.module_types.specs.Builder.{Builder, exception_index, excepts_by, excepts}
 
--- ---- the first place of a list at which a test passes
+-- ---- the first position of a list at which a test passes
 
 module _ (t : ℕ → Bool) where
   -- after some that fail
@@ -76,7 +77,7 @@ module _ (start : Built) where
   abbrev pub base : ℕ
   base = length start.types
 
-  -- some function types were asked for in turn
+  -- the exception types of some function types were requested in turn
   pub record Excepts (so_far : List ℕ) (b : Builder) : Type 0 where
     pub built : b.built ≡ with_exceptions start so_far
     pub at : (n : ℕ) → b.exceptions n ≡ position_from (λ k. k == n) base (firsts so_far)
@@ -135,7 +136,7 @@ module _ (start : Built) where
               at = λ m. noted-at e m ∙ ap (position_from (λ k. k == m) base) more;
             })
 
-      -- the index of the exception type is that of the function type among all that are asked for
+      -- the index of the exception type is that of the function type among all that are requested
       pub index-is : (is : List ℕ) → exception_index b n ≡ base + unwrap_or (position test (firsts (so_far ++ n ∷ is))) 0
       index-is is = by (list_any test known) refl where
         by : (there : Bool) → list_any test known ≡ there

@@ -23,7 +23,7 @@ pub length-entered : (n : ℕ) (es : List Export) → length (entered_from n es)
 length-entered n [] = refl
 length-entered n (e ∷ es) = ap suc (length-entered (n + 1) es)
 
--- an atom behind those of others is none of theirs
+-- an atom after those of others is none of theirs
 insert-behind : (eq : Atom → Atom → Bool) → ((x y : Atom) → eq x y ≡ true → x ≡ y) → (n : ℕ) (es : List Export) (k : Atom) (v : EntityIndex)
     → n + length es ≤ atom_number k → insert_entry eq (entered_from n es) k v ≡ entered_from n es ++ (k, v) ∷ []
 insert-behind eq same n [] k v behind = refl

@@ -1,4 +1,5 @@
--- The types of what was gathered are known, and the entities converted from them are those of the module.
+-- The types of what was gathered are known, and the entities converted from them are those of the
+-- module.
 use Rattle.std.proofs.Common.{◌≡◌, ◌∙◌, ℕ, ◌≤◌, List, length, map, get_or, ap, arith}
 use Rattle.std.specs.Prelude.{All}
 use Rattle.std.proofs.lemmas.List.{length-map, length-append}

@@ -19,7 +19,7 @@ pub on_ok : {T E A B C D P : Type 0} → (r : Result T E) → OnOk r A → OnOk 
 on_ok (Ok x) a b c d f = f a b c d
 on_ok (Err e) a b c d f = tt
 
--- the references of each part, noted one after another
+-- the references of each part, recorded one after another
 pub noted_all : (s a b d e : EscapeLog) (tables globals exports elements : List ℕ) → a ≡ after_escapes s tables → b ≡ after_escapes a globals
     → d ≡ after_escapes b exports → e ≡ after_escapes d elements → e ≡ after_escapes s (tables ++ globals ++ exports ++ elements)
 noted_all s a b d e tables globals exports elements at bt dt et = rw (et, dt, bt, at) (simp firsts-append)

@@ -38,7 +38,7 @@ use Rattle.module_environ.proofs.DeclaredLooks.{listed-long}
 use Rattle.module_environ.proofs.NotingEscapes.{firsts-append}
 use Rattle.module_environ.proofs.FromRules.{below-by}
 
--- what is lent as a trait object looks up what it did
+-- what is borrowed as a trait object looks up what it did
 pub carried-looks : (m : plain.Module) (e f : Entry Ghosts Dict) (same : e ≡ f) (x : Bor e.0.Denot)
     → LooksUpTypes m (e.1.knows x.now) (e.1.look_up x.now)
     → LooksUpTypes m (f.1.knows (carry_now Ghosts Dict e f same x)) (f.1.look_up (carry_now Ghosts Dict e f same x))
@@ -92,7 +92,7 @@ module _ (l : Lists) (gathered : IsGathered l) where
       (get_or (lists_of_module m).starts k d) (λ q. q) (gathered.keeps L8 k d lt) in
       omega (arith, below, gathered.few.functions)
 
--- ---- the whole
+-- ---- the complete translation
 
 -- an empty translation whose entities are filled in, and then its initialisers
 module _ (m : plain.Module) (index : Index StaticModuleSpace) (empty : ModuleTranslation) (new : IsNewTranslation index empty)

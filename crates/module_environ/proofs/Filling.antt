@@ -1,5 +1,5 @@
 -- What is gathered from the entries of a module, one after another: what was gathered, with what
--- those that are left give, is always all.
+-- the remaining entries give, is always all.
 use Rattle.std.proofs.Common.{◌≡◌, ◌≤◌, ℕ, Option, Some, None, List, [], ◌∷◌, ◌++◌, length, map, All, sym, subst, append_assoc, arith}
 use Rattle.std.specs.Prelude.{IfSome}
 use Rattle.std.specs.List.{filter_map, cons_option}
@@ -8,7 +8,7 @@ use Rattle.std.proofs.lemmas.List.Elements.{All-nil, All-cons, All-head, All-tai
 use Rattle.module_environ.specs.EscapeLog.{EscapeLog, after_escapes}
 use Rattle.module_environ.proofs.NotingEscapes.{after_escapes-append}
 
--- one part more is added of what is left
+-- one part more is added from the remaining entries
 pub added_more : {A : Type 0} (now after one left rest all : List A) → after ≡ now ++ one → left ≡ one ++ rest → now ++ left ≡ all → after ++ rest ≡ all
 added_more now after one left rest all added parts before = cc (append_assoc now one rest)
 
@@ -23,15 +23,16 @@ module _ {X : Type 0} (left rest : List X) (x : X) (at : left ≡ x ∷ rest) wh
       → map seen now ++ map made left ≡ all → map seen after ++ map made rest ≡ all
   made_more seen made now after z all is pushed before = cc (map_push seen now z, append_assoc (map seen now) (seen z ∷ []) (map made rest))
 
-  -- what holds of all that are left, by the number of the functions, which references do not change
+  -- what holds of all remaining entries, by the number of the functions, which references do not
+  -- change
   pub here_still : (P : ℕ → X → Type 0) (start now : ℕ) → now ≡ start → All (P start) left → P now x
   here_still P start now same all = subst (λ (n : ℕ). P n x) (sym same) (All-head (P start) x rest (All-same (P start) (x ∷ rest) left (sym at) all))
 
-  -- those that came, and one more
+  -- those that were read, and one more
   pub came_more : (came all : List X) → came ++ left ≡ all → (came ++ x ∷ []) ++ rest ≡ all
   came_more came all whole = cc (append_assoc came (x ∷ []) rest)
 
--- where none is left, all came
+-- where none remains, all were read
 pub came_all : {X : Type 0} (came left all : List X) → left ≡ [] → came ++ left ≡ all → came ≡ all
 came_all came left all none whole = cc (append-nil came)
 

@@ -1,4 +1,5 @@
--- The first places of numbers: each number of a list is listed once, in the order of their first places.
+-- The first positions of numbers: each number of a list is listed once, in the order of their first
+-- positions.
 use Rattle.std.proofs.Common.{◌≡◌, ◌≢◌, ◌⊎◌, ℕ, ◌<◌, Bool, append-nil, true, false, List, [], ◌∷◌, ◌++◌, length, get_or, refl, ap, subst, arith, length-append, append_assoc}
 use Rattle.std.specs.Prelude.{◌==◌, ◌↔◌, All, Contains, if◌then◌else◌}
 use Rattle.std.specs.List.{list_any, AllPairs}
@@ -11,7 +12,7 @@ use Rattle.entity_map.specs.Firsts.{firsts_after, firsts}
 use Rattle.module_environ.specs.Numbers.{StandOnce}
 use Rattle.module_environ.proofs.Numbering.{place, place-le, place-new, place-old, place-other, met-place, unmet-place}
 
--- whether a number is in a list is told by its first place
+-- whether a number is in a list follows from its first position
 pub met-any : (ns : List ℕ) (f : ℕ) → list_any (λ k. k == f) ns ≡ true → place ns f < length ns
 met-any ns f any = grind (arith, unmet-place ns f, place-le ns f)
 
@@ -30,7 +31,7 @@ pub record AreFirsts (ns listed : List ℕ) : Type 0 where
   pub all : (f : ℕ) → place ns f < length ns → place listed f < length listed
   pub rising : AllPairs (λ f g. place ns f < place ns g) listed
 
--- the place after one more number, which was met before or not
+-- the position after one more number, which was seen before or not
 still : (ns : List ℕ) (n f : ℕ) → place ns f < length ns → place (ns ++ n ∷ []) f < length (ns ++ n ∷ [])
 still ns n f lt = omega (arith, lt, place-old ns n f lt, length-append ns (n ∷ []))
 

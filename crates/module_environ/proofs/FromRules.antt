@@ -1,4 +1,5 @@
--- What the rules say of constant expressions: each can be converted where the declared types are known.
+-- What the rules say of constant expressions: each can be converted where the declared types are
+-- known.
 use Rattle.std.proofs.Common.{◌≡◌, ℕ, ◌<◌, ◌≤◌, ◌^◌, ◌⊎◌, Bool, true, false, List, [], ◌∷◌, length, Option, Some, None, refl, ap, subst, arith, inl, inr, get_or}
 use Rattle.std.specs.Prelude.{All, slice_get, nat_lt}
 use Rattle.std.specs.Option.{option_map, option_and_then}

@@ -1,4 +1,4 @@
--- A text stays where it stands in a pool that grows.
+-- A text keeps its position in a pool that grows.
 use Rattle.std.proofs.Common.{◌≡◌, ◌≤◌, ◌<◌, ◌^◌, ◌*◌, ℕ, ◌+◌, Bool, true, false, zero, suc, List, [], ◌∷◌, ◌++◌, length, map, slice_get, unwrap_or, All, refl, sym, ap, ◌∙◌, cond, append_assoc, arith}
 use Rattle.std.specs.List.{list_any, flat_map}
 use Rattle.std.specs.Str.{bytes_eq}
@@ -55,7 +55,7 @@ length-grown n old new grows = omega (arith, grows.few, ap length grows.whole �
 
 -- ---- the names of a module
 
--- texts that are put in behind others
+-- texts that are added after others
 pub texts-then : (old now new : List (List ℕ)) (first second both : List (List ℕ)) → both ≡ first ++ second → now ≡ with_texts old first
     → new ≡ with_texts now second → new ≡ with_texts old both
 texts-then old now new first second both whole is then =
@@ -74,7 +74,7 @@ imports-pooled was is texts whole =
 pub exported-few : (m : plain.Module) → HasFewEntries m → length (exported_names (lists_of_module m).exports) < 2 ^ 30
 exported-few m few = omega (arith, length-map (lists_of_module m).exports (λ (e : plain.Export). e.name), few.exports)
 
--- so few are the names of imports and exports that there is room for that of the module
+-- imports and exports have so few names that there is capacity for that of the module
 pub names-pooled : (m : plain.Module) → HasFewEntries m → (texts : List (List ℕ))
     → texts ≡ with_texts (exported_names (lists_of_module m).exports) (imported_names m) → length texts < 2 ^ 31 + 2 ^ 30
 names-pooled m few texts whole =

@@ -37,7 +37,7 @@ few_passive : (xs : List Element) → length (passive_elements xs) ≤ length xs
 few_passive [] = omega arith
 few_passive (x ∷ xs) = grind (arith, few_passive xs)
 
--- the number at a place of a longer list
+-- the number at a position of a longer list
 abbrev number_in : List (Option ℕ) → ℕ → Option ℕ
 number_in ns i = unwrap_or (slice_get ns i) None
 

@@ -1,4 +1,4 @@
--- A converted expression, converted back, is what replay sees of the expression.
+-- A converted expression, converted back, is the replay's view of the expression.
 use Rattle.std.proofs.Common.{◌≡◌, map, refl, ap, ◌∙◌}
 use Rattle.std.proofs.lemmas.Simd.{map-map}
 use Rattle.wasm_spec.specs.declared.operators.Operator.{Operator}

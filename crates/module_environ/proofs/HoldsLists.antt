@@ -1,4 +1,5 @@
--- A translation holds the lists of its module, in the form in which plans are said to agree with a module.
+-- A translation holds the lists of its module, in the form in which plans are said to agree with a
+-- module.
 use Rattle.std.proofs.Common.{◌≡◌, ◌<◌, ◌+◌, ◌-◌, ℕ, zero, suc, Bool, true, false, List, [], ◌∷◌, ◌++◌, length, map, drop, All, Option, Some, None, refl, sym, ap, ◌∙◌, arith}
 use Rattle.std.specs.Prelude.{slice_get, unwrap_or}
 use Rattle.std.specs.List.{filter_map, cons_option, enumerate_from}

@@ -1,4 +1,4 @@
--- Each imported entity has a place among the imports.
+-- Each imported entity has a position among the imports.
 use Rattle.std.proofs.Common.{◌≡◌, ◌<◌, ℕ, ◌+◌, zero, suc, List, [], ◌∷◌, ◌++◌, length, slice_get, Option, None, Some, is_some, IsSome, refl, sym, ap, ◌∙◌, zero-add, arith}
 use Rattle.std.specs.List.{filter_map, cons_option}
 use Rattle.std.specs.Option.{option_map}
@@ -20,7 +20,7 @@ use Rattle.module_environ.specs.Entities.{NamedEntity, count_of, brought, import
 use Rattle.module_environ.specs.Translation.{HasEntities, CountsImports}
 use Rattle.module_environ.proofs.ImportsInTurn.{count_of-push}
 
--- the entity at a place among those that are imported
+-- the entity at a position among those that are imported
 abbrev pub named_at : List NamedEntity → ℕ → Option EntityIndex
 named_at es place = option_map (λ (x : NamedEntity). x.2) (slice_get es place)
 

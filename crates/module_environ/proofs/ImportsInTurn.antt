@@ -93,7 +93,7 @@ imported-step was is i old new now after one c d counts put pooled resolved push
     (subst (λ (xs : List Initializer). AreImported was (is ++ i ∷ []) new xs (counted c i.type)) (sym pushed)
     (imported-push was is i old new now one c put pooled resolved h))
 
--- there is room for the names of few imports
+-- there is capacity for the names of few imports
 pub room-for-imports : (was : List (List ℕ)) (is : List Import) (texts : List (List ℕ)) (before : List Initializer) (c : ImportCounts)
     → AreImported was is texts before c → length was < 2 ^ 30 → length is < 2 ^ 30 → length texts < 4294967293
 room-for-imports was is texts before c h short few = omega (arith, short, few, imports-pooled was is texts h.pool)

@@ -29,7 +29,7 @@ use Rattle.module_environ.specs.Environment.{AreHeld}
 use Rattle.module_environ.specs.OnTheWay.{after_types}
 
 module _ (m : plain.Module) (t : TypesData) (of : AreTypesOf m t) where
-  -- a builder holds what is taken of the types before a place
+  -- a builder holds what is taken of the types before a position
   abbrev pub Reached : Builder → ℕ → Type 0
   Reached b i = Has m t of.numbered of.earlier b (done_at (placed_groups m) i) (state (placed_groups m) i)
 

@@ -82,7 +82,7 @@ page_sizes : (types : List MemoryType) → All HasLimits types
 page_sizes types h = All-map (λ (m : Memory). (m.page_size_log2 ≡ 0) ⊎ (m.page_size_log2 ≡ 16)) memory_of types
     (λ k d lt. page_size_of (get_or types k d).page_size_log2 (h k d lt).page_size)
 
--- ---- the whole
+-- ---- all parts together
 
 pub memories-ready : (m : Module) (t : ModuleTranslation) → HasData m t → HasEntities m t → CountsImports m t.module → Keeps m → HasFewEntries m
     → MemoryHalfIsReady t

@@ -1,4 +1,4 @@
--- Names that are added in turn: each declared type is named at its place.
+-- Names that are added in turn: each declared type is named at its index.
 use Rattle.std.proofs.Common.{◌≡◌, ◌<◌, ℕ, zero, suc, Some, List, [], ◌∷◌, ◌++◌, length, ap, arith}
 use Rattle.wasm_spec.specs.TypeData.{Concrete}
 use Rattle.wasm_types.specs.declared.heap.WasmHeapType.{WasmHeapType}

@@ -1,4 +1,4 @@
--- References that are noted one after another are noted in one.
+-- References that are recorded one after another are recorded as by one call.
 use Rattle.std.proofs.Common.{◌≡◌, ℕ, ◌+◌, ◌<◌, List, [], ◌∷◌, ◌++◌, length, get_or, map, take, set, refl, sym, ◌∙◌, subst}
 use Rattle.std.specs.Prelude.{◌==◌}
 use Rattle.std.specs.List.{range_with_len}
@@ -16,7 +16,7 @@ firsts-append known xs ys = sym (fold-append (with_first (λ k n. k == n)) known
 pub after_escapes-append : (s : EscapeLog) (xs ys : List ℕ) → after_escapes (after_escapes s xs) ys ≡ after_escapes s (xs ++ ys)
 after_escapes-append s xs ys = simp firsts-append
 
--- noted twice, and so in one
+-- recorded by two calls, and so by one
 pub noted-both : (f g h : EscapeLog) (xs ys zs : List ℕ) → g ≡ after_escapes f xs → h ≡ after_escapes g ys → zs ≡ xs ++ ys → h ≡ after_escapes f zs
 noted-both f g h xs ys zs first second both = rw (second, first, both) (simp firsts-append)
 
@@ -32,7 +32,7 @@ pub after_escapes-next : (s t u : EscapeLog) (start n : ℕ) → t ≡ after_esc
     → u ≡ after_escapes s (range_with_len start (n + 1))
 after_escapes-next s t u start n before now = noted-both s t u (range_with_len start n) ((start + n) ∷ []) (range_with_len start (n + 1)) before now (range-more start n)
 
--- what is kept, seen as one record
+-- what is kept, viewed as one record
 pub seen-new : (s : EscapeLog) (numbers order after : List ℕ) (f : ℕ) → AreNumbers numbers order → record { count = length numbers; order = order } ≡ s
     → f < length numbers → get_or numbers f 0 ≡ 4294967295 → after ≡ order ++ f ∷ []
     → record { count = length (set numbers f (length order)); order = after } ≡ after_escapes s (f ∷ [])

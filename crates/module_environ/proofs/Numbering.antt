@@ -1,4 +1,4 @@
--- One more function is met: it gets the next number, and the others keep theirs.
+-- One more function is recorded: it gets the next number, and the others keep theirs.
 use Rattle.std.proofs.Common.{◌≡◌, ◌≢◌, ℕ, ◌+◌, ◌<◌, ◌≤◌, true, false, eqb, List, [], ◌∷◌, ◌++◌, length, get_or, set, ap, sym, ◌∙◌, subst, arith, inl, inr, length-append}
 use Rattle.std.specs.Prelude.{◌==◌, All}
 use Rattle.std.specs.List.{position_or_len, list_any, AllPairs, Any}
@@ -14,7 +14,7 @@ use Rattle.module_environ.specs.Escapes.{number_among}
 use Rattle.entity_map.specs.Firsts.{firsts_after}
 use Rattle.module_environ.specs.Numbers.{StandOnce, AreNumbers}
 
--- the first place of a function, which is the list's length where it was not met
+-- the first position of a function, which is the list's length where it was not recorded
 abbrev pub place : List ℕ → ℕ → ℕ
 place order f = position_or_len (λ k. k == f) order
 
@@ -50,7 +50,7 @@ order-few order count once below =
     Any-at : {q : ℕ} → Any (λ x. eqb q x ≡ true) order → q < count
     Any-at {q} a = grind (arith, a.3, eqb-true q a.1 a.4, below a.0 a.1 a.2)
 
--- whether a function was met is told by its first place
+-- whether a function was recorded follows from its first position
 pub met-place : (order : List ℕ) (f : ℕ) → place order f < length order → list_any (λ k. k == f) order ≡ true
 met-place order f lt = list_any_at (λ k. k == f) order (place order f) 0 lt (passes_at_first (λ k. k == f) order 0 lt)
 
@@ -68,7 +68,7 @@ StandOnce-more order f once new k lt =
           ap (place (order ++ f ∷ [])) (get_or_push order f 0 k e) ∙ place-new order f new ∙ e
     ]
 
--- a function's kept number tells whether it was met
+-- a function's kept number says whether it was recorded
 pub unmet : (numbers order : List ℕ) (f : ℕ) → AreNumbers numbers order → f < length numbers → get_or numbers f 0 ≡ 4294967295
     → place order f ≡ length order
 unmet numbers order f kept in' e =
@@ -102,7 +102,7 @@ AreNumbers-more numbers order f kept in' e =
       few = omega (arith, long, kept.few);
     }
 
--- and so the functions that were met are as they are to be
+-- and so the functions that were recorded are as they must be
 pub after_escapes-new : (numbers order : List ℕ) (f : ℕ) → AreNumbers numbers order → f < length numbers → get_or numbers f 0 ≡ 4294967295
     → order ++ f ∷ [] ≡ firsts_after order (f ∷ [])
 after_escapes-new numbers order f kept in' e = grind (arith, unmet-place order f (unmet numbers order f kept in' e))

@@ -37,7 +37,8 @@ at-entry Q R xs i lt f h = by (slice_get_cases xs i).1 where
   by (inl found) = f found.0 (subst (λ o. IfSome o Q) found.2 h)
   by (inr past) = absurd (omega (arith, past.0, lt))
 
--- a module that keeps the rules, with what is known of its declared types, and the number of its functions
+-- a module that keeps the rules, with what is known of its declared types, and the number of its
+-- functions
 module _ (m : plain.Module) (keeps : Keeps m) (few : HasFewEntries m) (known : UnpackedIndex → Type 0)
     (knows : (i : ℕ) → i < length (lists_of_module m).types → known (index.Module i))
     (functions : ℕ) (counted : functions ≡ length (lists_of_module m).functions) where

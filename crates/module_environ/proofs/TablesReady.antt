@@ -122,7 +122,7 @@ no_images {T} images tables none =
     let empty = All-from_map (λ (l : List (Index FuncSpace)). l ≡ []) (λ (v : Vec (Index FuncSpace)). v.items) images (rw none none') in
     All-map (λ (image : List (Option ℕ)). image ≡ []) (λ (v : Vec (Index FuncSpace)). image_of v.items) images (λ k d lt. ap image_of (empty k d lt))
 
--- ---- the whole
+-- ---- all parts together
 
 module _ (debugged : Bool) (m : Module) (t : ModuleTranslation) (has : HasElements m t) (entities : HasEntities m t) (counts : CountsImports m t.module)
     (escapes : Escapes debugged m t) (kept : Keeps m) (few : HasFewEntries m) where

@@ -35,7 +35,7 @@ excepts-long : (b : Builder) (n : ℕ) (o : Option ℕ) → length (excepts_by b
 excepts-long b n (Some k) = omega arith
 excepts-long b n None = omega (arith, length-append {A = Interned})
 
--- a list at a place
+-- a list split at a position
 around : (xs : List ℕ) (k : ℕ) → k < length xs → xs ≡ take k xs ++ get_or xs k 0 ∷ drop (suc k) xs
 around xs k lt = sym (take-append-drop k xs) ∙ ap (λ l. take k xs ++ l) (drop-cons xs k 0 lt)
 

@@ -1,5 +1,5 @@
--- Places at which a builder stands on its way through the types of a module, and what a call that
--- stops there answers.
+-- States of a builder while it processes the types of a module, and what a call that stops there
+-- returns.
 use Rattle.std.proofs.Common.{◌≡◌, ◌≢◌, ◌∙◌, ◌⊎◌, inl, inr, ℕ, Bool, true, false, List, length, map, Result, Ok, Err, refl, ap, arith}
 use Rattle.std.specs.Prelude.{IfErr, OnErr}
 use Rattle.std.proofs.lemmas.Bool.{cases_Bool}
@@ -68,9 +68,9 @@ module _ (m : plain.Module) (validator : ℕ) (t : TypesData) (numbered : AreNum
           ∙ ap (λ (ns : List ℕ). after_tags m (plain.tags m) (after_types t (length t.declared)) (length ns)) named)));
     }
 
--- ---- answers
+-- ---- results
 
--- a builder that is not poisoned answers that there is no memory
+-- a builder that is not poisoned reports that there is no memory
 pub build-memory : (e : BuildError) → (e ≡ build.Poisoned → ⊥) → error_of_build e ≡ refusal.OutOfMemory
 build-memory build.OutOfMemory sound = refl
 build-memory build.Poisoned sound = absurd (sound refl)

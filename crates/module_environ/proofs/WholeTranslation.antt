@@ -46,7 +46,7 @@ empty-map : {A B : Type 0} (f : A → B) (xs : List A) → is_empty (map f xs) �
 empty-map f [] = refl
 empty-map f (x ∷ xs) = refl
 
--- the initialisers that are left, with and without their numbers
+-- the remaining initialisers, with and without their numbers
 empty-left : (n : ℕ) (es : List Expression) → is_empty (filter_map kept_of (enumerate_from n es)) ≡ is_empty (filter (λ e. is_none (const_value e)) es)
 empty-left n [] = refl
 empty-left n (e ∷ es) = grind (arith, empty-left (n + 1) es)
@@ -127,7 +127,7 @@ pub check-cause : {A : Type 0} (m : plain.Module) (poisoned : Bool) (r : Result 
 check-cause m poisoned r (checks.Invalid rule) was broken first = (broken rule was, first rule was)
 check-cause m poisoned r checks.OutOfMemory was broken first = tt
 
--- ---- the whole
+-- ---- the complete translation
 
 pub new-startup : {index : _} (t : ModuleTranslation) → IsNewTranslation index t → t.module.startup ≡ startup.None
 new-startup t new = ap (λ (r : ModuleRecord). r.startup) new.record_of_module

@@ -7,7 +7,7 @@ use Rattle.wasm_index.specs.Index.{number_of}
 use Rattle.wasm_module.specs.declared.function.FunctionType.{FunctionType}
 use Rattle.module_environ.specs.Escapes.{references}
 
--- the place of the first cause for a reference to a function
+-- the position of the first cause for a reference to a function
 abbrev pub first_cause : Bool → Lists → ℕ → ℕ
 first_cause debugged l function = position_or_len (λ k. k == function) (references debugged l)
 

@@ -28,7 +28,7 @@ HasNames native m t = record {
   section : KeepsNames (names_asked native m) t.debuginfo.name_section;
 }
 
--- the hints of the last section without a fault, where they are asked for
+-- the hints of the last section without a fault, where the caller requires them
 abbrev pub hints_asked : Bool → plain.Module → HintLists
 hints_asked asked m = if asked then module_hints m else []
 

@@ -2,7 +2,7 @@
 use Rattle.std.specs.Prelude.{ℕ, List}
 use Rattle.entity_map.specs.Firsts.{firsts_after}
 
--- how many functions there are, and those that were met, in the order of the first cause
+-- how many functions there are, and those that were recorded, in the order of the first cause
 pub record EscapeLog : Type 0 where
   pub count : ℕ
   pub order : List ℕ

@@ -17,8 +17,8 @@ pub record CanExport (functions : ℕ) (e : Export) : Type 0 where
   pub index : e.index < reserved_number
   pub function : IfSome (exported_function e.kind e.index) (λ f. f < functions)
 
--- what exports become, of which the first has this place: their names are the first texts of the
--- pool, in order, so the atom of each is its place
+-- what exports become, of which the first has this position: their names are the first texts of the
+-- pool, in order, so the atom of each is its position
 abbrev pub entered_from : ℕ → List Export → List (Atom × EntityIndex)
 entered_from place [] = []
 entered_from place (e ∷ es) = (record { 0 = place }, entity_at e.kind e.index) ∷ entered_from (place + 1) es

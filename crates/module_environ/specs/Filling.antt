@@ -32,8 +32,8 @@ use Rattle.module_environ.specs.Translation.{CountsImports, NeedsHeap, HasGlobal
 abbrev pub module_in : Lists → plain.Module
 module_in l = source_module l.source
 
--- the lists are those of a module that keeps the rules and has few entries, but for its types, for
--- which nothing asks any more
+-- the lists are those of a module that keeps the rules and has few entries, except that the types
+-- are removed: no later step reads them
 pub record IsGathered (l : Lists) : Type 0 where
   pub lists : lists_of l ≡ record (lists_of_module (module_in l)) { types = [] }
   pub keeps : Keeps (module_in l)
@@ -44,7 +44,7 @@ pub record LooksUpTypes (m : plain.Module) (known : UnpackedIndex → Type 0) (l
   pub knows : (i : ℕ) → i < length (lists_of_module m).types → known (index.Module i)
   pub same : look ≡ look_up_in m
 
--- imports and index spaces but those of functions and tags are filled in
+-- imports and all index spaces except those of functions and tags are filled in
 pub record FillsEntities (m : plain.Module) (old new : Module) : Type 0 where
   pub imports : map (resolved_import new.strings) new.initializers.items ≡ imported_entities m
   pub pooled : All (HasTexts new.strings) new.initializers.items
@@ -76,7 +76,7 @@ references_of l =
     ++ exported_functions l.exports
     ++ flat_map (λ e. item_functions e.items) l.elements
 
--- exports, first values and segments are filled in, and their references noted
+-- exports, first values and segments are filled in, and their references recorded
 pub record FillsInitialisers (m : plain.Module) (before after : EscapeLog) (old new : ModuleTranslation) : Type 0 where
   pub exports : map (resolved_export old.module.strings) new.module.exports.entries ≡ exported_entities (lists_of_module m).exports
   pub pooled : All (λ e. HasText old.module.strings e.0) new.module.exports.entries
@@ -101,7 +101,7 @@ pub record FillsInitialisers (m : plain.Module) (before after : EscapeLog) (old 
     private_parts = record old.private_parts { passive_data = new.private_parts.passive_data };
   }
 
--- what the sections leave of a translation
+-- what filling in the sections does not change in a translation
 abbrev pub LeavesRest : ModuleTranslation → ModuleTranslation → Type 0
 LeavesRest old new = record {
   index : new.module.module_index ≡ old.module.module_index;
@@ -109,8 +109,8 @@ LeavesRest old new = record {
   offset : new.wasm_module_offset ≡ old.wasm_module_offset;
 }
 
--- of a translation only names, hints, and the metadata of its functions and of debug information,
--- may be others
+-- only names, hints, and the metadata of functions and of debug information may differ in a
+-- translation
 abbrev pub OnlyCustomsChange : ModuleTranslation → ModuleTranslation → Type 0
 OnlyCustomsChange old new = new ≡ record old {
   «module» = record old.module { strings = new.module.strings; name = new.module.name };

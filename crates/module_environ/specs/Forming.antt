@@ -15,7 +15,7 @@ use Rattle.module_environ.specs.Pooled.{pool_of}
 use Rattle.module_environ.specs.Translation.{startup_when, HasTypes, HasSections}
 use Rattle.module_environ.specs.Translated.{starts_always, HoldsTypes}
 
--- all of a translation but its bytes and its code
+-- all of a translation except its bytes and its code
 pub record IsFormed (tunables : Tunables) (validator : ℕ) (m : plain.Module) (old new : ModuleTranslation) (b : BuilderState) : Type 0 where
   pub keeps : Keeps m
   pub types : HasTypes m validator new

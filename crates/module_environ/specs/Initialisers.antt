@@ -22,7 +22,8 @@ use Rattle.replay_spec.specs.Values.{Value}
 use Rattle.replay_spec.specs.Globals.{simple_of, kept_of}
 use Rattle.replay_spec.specs.Startup.{is_passive, passive_elements}
 
--- ---- globals: those whose value is known, and the others with their initialisers, by their numbers among the defined ones
+-- ---- globals: those whose value is known, and the others with their initialisers, by their
+-- numbers among the defined ones
 
 abbrev pub initialisers : List GlobalDef → List (ℕ × Expression)
 initialisers globals = enumerate_from 0 (map (λ g. g.init) globals)
@@ -85,7 +86,7 @@ view_segment s = record { table = number_of s.table_index; offset = s.offset; it
 abbrev pub passive_items : LookUp → List Element → List Items
 passive_items look elements = map (λ e. items_in look e.items) (passive_elements elements)
 
--- by the place among all segments; the first has a number
+-- by the position among all segments; the first has a number
 abbrev pub passive_numbers : ℕ → List Element → List (Option ℕ)
 passive_numbers next [] = []
 passive_numbers next (e ∷ es) = if is_passive e.kind then Some next ∷ passive_numbers (next + 1) es else None ∷ passive_numbers next es

@@ -15,7 +15,7 @@ use Rattle.init_plan.specs.declared.debug_info.FunctionMetadata.{FunctionMetadat
 
 pub record FunctionData : Type 0 where
   pub params : List (Value Name)
-  -- how many locals stand in a row, and their type
+  -- how many consecutive locals have one type, and the type
   pub locals : List (ℕ × Value Name)
 
 -- the parameters of a function type
@@ -23,15 +23,15 @@ abbrev pub params_of : Composite UnpackedIndex UnpackedIndex → List (Value Unp
 params_of (Func type) = type.params
 params_of _ = []
 
--- the types that those of a declared type name are known
+-- the types that the parameters of a declared type name are known
 abbrev pub KnowsParams : (UnpackedIndex → Type 0) → SubType UnpackedIndex UnpackedIndex → Type 0
 KnowsParams known type = All (λ v. Known known (value_edges (λ i. i) v)) (params_of type.composite.inner)
 
--- what they are looked up to
+-- what the parameters are looked up to
 abbrev pub params_to : LookUp → SubType UnpackedIndex UnpackedIndex → List (Value Name)
 params_to look type = map (map_value look) (params_of type.composite.inner)
 
--- those of a function of the index space
+-- the parameters of a function of the index space
 abbrev pub params_at : Lists → ℕ → List (Value UnpackedIndex)
 params_at l function = unwrap_or (option_map params_of (kind_of_function l function)) []
 
@@ -48,11 +48,11 @@ module _ (look : LookUp) (l : Lists) where
     locals = map (λ run. (run.0, map_value look (value_of run.1))) f.1.locals;
   }
 
-  -- of all, in order
+  -- the metadata of all defined functions, in order
   abbrev pub functions_data : List FunctionData
   functions_data = map function_data (enumerate_from 0 l.bodies)
 
-  -- of all where they are asked for, and of none otherwise
+  -- of all where the caller requires it, and of none otherwise
   abbrev pub functions_asked : Bool → List FunctionData
   functions_asked asked = if asked then functions_data else []
 

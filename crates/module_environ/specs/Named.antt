@@ -13,11 +13,11 @@ abbrev pub named_by : Heap Name → Option Name
 named_by (Concrete name) = Some name
 named_by (Abstract heap) = None
 
--- what the type at a place is named by
+-- what the type at an index is named by
 abbrev pub name_at : List WasmHeapType → ℕ → Option Name
 name_at names i = option_and_then (λ h. named_by (heap_of h)) (slice_get names i)
 
--- what stands for the name of an index that is not known
+-- the default for the name of an index that is not known
 abbrev pub unnamed : Name
 unnamed = record { kind = FuncName; index = type_index 0 }
 

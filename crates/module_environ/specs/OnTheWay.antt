@@ -1,4 +1,5 @@
--- Where a builder stands on its way through the types of a module, which ends early where memory does.
+-- The state of a builder while it processes the types of a module, which stops early where memory
+-- runs out.
 use Rattle.std.specs.Prelude.{◌≡◌, ◌⊎◌, ℕ, false, List, length, map, take}
 use Rattle.std.specs.List.{fold}
 use Rattle.wasm_spec.specs.Module as plain
@@ -30,7 +31,8 @@ pub record IsOnTheWay (m : plain.Module) (validator : ℕ) (b : Builder) : Type 
       ⊎ ((count : ℕ) × (b ≡ after_tags m (plain.tags m) groups count))
       ⊎ (b ≡ starts (after_tags m (plain.tags m) groups (length (plain.tags m))))
 
--- where it is not poisoned it is as it was, or on its way through the module that the bytes spell
+-- where it is not poisoned it is unchanged, or in a state of processing the module that the bytes
+-- spell
 abbrev pub StopsOnTheWay : ℕ → List ℕ → BuilderState → BuilderState → Type 0
 StopsOnTheWay validator bytes old new = new.is_poisoned ≡ false
     → (new ≡ old) ⊎ ((m : plain.Module) × IsReadable bytes m × Keeps m × IsOnTheWay m validator (builder_view new))

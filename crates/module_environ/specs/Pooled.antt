@@ -10,7 +10,7 @@ use Rattle.wasm_module.specs.declared.initializer.Initializer.{Initializer}
 use Rattle.wasm_module.specs.declared.initializer.Initializer.TheVariants as initializer
 use Rattle.module_customs.specs.Names.{module_names}
 
--- a pool after some texts are put in, in order
+-- a pool after some texts are added, in order
 abbrev pub with_texts : List (List ℕ) → List (List ℕ) → List (List ℕ)
 with_texts texts more = fold with_text texts more
 
@@ -23,7 +23,7 @@ own_name native m = cons_option (module_names native m).module_name []
 abbrev pub pool_of : Bool → plain.Module → List (List ℕ)
 pool_of native m = with_texts (exported_names (lists_of_module m).exports) (imported_names m ++ own_name native m)
 
--- a text stands at the atom
+-- a text is at the atom
 abbrev pub HasText : List (List ℕ) → Atom → Type 0
 HasText texts atom = atom_number atom < length texts
 

@@ -1,4 +1,5 @@
--- Which bytes spell a module that can be read, and why others are refused (core specification, 5.5, modules).
+-- Which bytes spell a module that can be read, and why others are refused (core specification, 5.5,
+-- modules).
 use Rattle.std.specs.Prelude.{◌≡◌, ℕ, ◌^◌, ◌<◌, ◌≤◌, Bool, true, List, length, Result, Ok, Err}
 use Rattle.wasm_spec.specs.declared.operators.What.{What}
 use Rattle.wasm_spec.specs.Module.{Module}
@@ -10,7 +11,8 @@ use Rattle.rule_spec.specs.Rules.{Satisfies, KeepsBefore}
 use Rattle.module_environ.specs.declared.error.EnvironError.{EnvironError}
 use Rattle.module_environ.specs.declared.error.EnvironError.TheVariants as refusal
 
--- the bytes, fewer than 2 ^ 30, spell the module, and no custom section of it is one of interface types
+-- the bytes, fewer than 2 ^ 30, spell the module, and no custom section of it is one of interface
+-- types
 pub record IsReadable (bytes : List ℕ) (m : Module) : Type 0 where
   pub short : length bytes < 2 ^ 30
   pub spelled : Spells bytes m

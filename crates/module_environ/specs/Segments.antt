@@ -47,7 +47,8 @@ module _ (known : UnpackedIndex → Type 0) where
   abbrev pub AreElementsConvertible : ℕ → List Element → Type 0
   AreElementsConvertible functions elements = All (IsElementConvertible functions) elements
 
--- active segments, and passive ones with their types and lengths, each found by its place among all
+-- active segments, and passive ones with their types and lengths, each found by its position among
+-- all
 pub record HoldsElements (look : LookUp) (elements : List Element) (s : ElementSegments) : Type 0 where
   pub active : map view_segment s.active.items ≡ active_elements look elements
   pub passive : map view_items s.passive ≡ passive_items look elements

@@ -17,8 +17,8 @@ use Rattle.module_environ.specs.Types.{interned_list}
 use Rattle.module_environ.specs.Readable.{IsReadable}
 use Rattle.module_environ.specs.Translation.{IsTranslation}
 
--- whether startup is known to run: a global's initialiser is left, or there is a start function or
--- a passive element segment
+-- whether startup is known to run: an initialiser of a global remains, or there is a start function
+-- or a passive element segment
 abbrev pub starts_always : plain.Module → Bool
 starts_always m = not (leaves_nothing (lists_of_module m))
 
@@ -28,15 +28,15 @@ startup_index_when m false = None
 startup_index_when m true = Some (length (interned_list m false).types)
 
 -- the builder holds the interned types of the module, with a startup type where startup is known to
--- run, and can go on
+-- run, and is not poisoned
 pub record HoldsTypes (m : plain.Module) (b : Builder) : Type 0 where
   pub built : b.built ≡ interned_list m (starts_always m)
   pub startup : b.startup ≡ startup_index_when m (starts_always m)
   pub sound : b.is_poisoned ≡ false
   pub room : length b.built.types + 1 < 4294967295
 
--- memories and tables may be planned, and the translation holds the lists of the module of which
--- their plans speak
+-- memories and tables may be planned, and the translation holds the lists of the module that their
+-- plans refer to
 pub record IsReady (m : plain.Module) (t : ModuleTranslation) : Type 0 where
   pub memories : MemoryHalfIsReady t
   pub tables : TableHalfIsReady t

@@ -121,7 +121,7 @@ HasData m t = record {
   no_alignment : t.data_align ≡ None;
 }
 
--- what each section but those of types, tags and code, and custom ones, becomes
+-- what each section becomes, except those of types, tags and code, and custom ones
 abbrev pub HasSections : Bool → plain.Module → ModuleTranslation → Type 0
 HasSections debugged m t = record {
   entities : HasEntities m t;
@@ -133,7 +133,7 @@ HasSections debugged m t = record {
   data_segments : HasData m t;
 }
 
--- the bodies of the defined functions, and where the code stands
+-- the bodies of the defined functions, and where the code is
 abbrev pub HasCode : plain.Module → ModuleTranslation → Type 0
 HasCode m t = record {
   bodies : map (λ input. body_of input.body) t.function_body_inputs ≡ (lists_of_module m).bodies;

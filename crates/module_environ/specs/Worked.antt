@@ -35,7 +35,8 @@ escaping_module =
     ∷ Elements (declared_functions (1 ∷ 4 ∷ []) ∷ [])
     ∷ []
 
--- a function of two numbers that is defined, with three locals of a kind, after one that is imported
+-- a function of two numbers that is defined, with three locals of a kind, after one that is
+-- imported
 abbrev pub defining_module : Module
 defining_module =
     Types ((record {

@@ -15,7 +15,8 @@ use init_plan::FunctionBodyData;
 use std::alloc::Global;
 use wasm_index::DefinedFuncIndex;
 
-/// The bodies of the defined functions, and the place of the code section's contents, 0 without one.
+/// The bodies of the defined functions, and the offset of the code section's contents, 0 without
+/// one.
 pub(crate) fn take_bodies<'d>(
     alloc: Global,
     form: InputForm<'d>,

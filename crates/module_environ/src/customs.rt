@@ -25,8 +25,8 @@ use wasm_convert::TypeConvert;
 use wasm_index::FuncIndex;
 use wasm_types::Tunables;
 
-/// Fills in names, hints of branches and the metadata of functions, as far as they are asked for,
-/// and whether there is debug information.
+/// Fills in names, hints of branches and the metadata of functions, as far as the caller requires
+/// them, and whether there is debug information.
 pub(crate) fn fill_customs<'d>(
     alloc: Global,
     tunables: &Tunables,
@@ -46,7 +46,7 @@ pub(crate) fn fill_customs<'d>(
     let native = tunables.debug_native;
     let names = kept_names(alloc, lists.source, native)?;
     translation.module.name = pool_name(&mut translation.module.strings, names.module_name)?;
-    // The names and functions of before, of which there are none, are dropped as values of their own.
+    // The earlier names and functions, which are empty, are dropped as separate values.
     let _no_names = mem::replace(
         &mut translation.debuginfo.name_section,
         asked_names(names, native),
@@ -58,7 +58,7 @@ pub(crate) fn fill_customs<'d>(
     Ok(())
 }
 
-/// The atom of a name, where there is one; the name goes into the pool.
+/// The atom of a name, where there is one; the name is added to the pool.
 fn pool_name(strings: &mut StringPool, name: Option<&str>) -> Result<Option<Atom>, OutOfMemory>
     requires { length strings.old < u32.MAX - 1 }
     ensures pool { OnOk result (strings.new ≡ with_texts strings.old (cons_option (option_map (λ text. text.now) name.entry) [])) }
@@ -85,7 +85,7 @@ fn asked_names(names: NameSection<'_>, native: bool) -> NameSection<'_>
     }
 }
 
-/// The hints of branches by their functions, where they are asked for.
+/// The hints of branches by their functions, where the caller requires them.
 fn asked_hints(
     alloc: Global,
     source: Source<'_, '_>,

@@ -20,7 +20,7 @@ use std::alloc::Global;
 use wasm_convert::TypeConvert;
 use wasm_index::{DataIndex, MemoryIndex};
 
-/// The data segments: active ones as they are, to be planned, and passive ones by their index.
+/// The data segments: active ones unchanged, to be planned, and passive ones by their index.
 pub(crate) fn add_segments<'d>(
     alloc: Global,
     env: &dyn TypeConvert,
@@ -56,7 +56,8 @@ pub(crate) fn add_segments<'d>(
     Ok(())
 }
 
-/// Adds the segment that has this index: an active one to be planned, and a passive one by that index.
+/// Adds the segment that has this index: an active one to be planned, and a passive one by that
+/// index.
 fn add_segment<'d>(
     alloc: Global,
     env: &dyn TypeConvert,

@@ -46,7 +46,7 @@ pub(crate) fn declared_converter<'a>(
 }
 
 /// The declared types of a module, each as a reference to its interned type. It holds no borrow, so
-/// that it can stand behind a trait object.
+/// that it can be used as a trait object.
 #[derive(Drop)]
 pub(crate) struct DeclaredTypes {
     names: Vec<WasmHeapType>,

@@ -20,7 +20,7 @@ use wasm_convert::{ConstExpr, TypeConvert};
 use wasm_index::FuncIndex;
 use wasm_module::TableSegmentElements;
 
-/// The items of a segment, converted; the functions to which they make references are noted.
+/// The items of a segment, converted; the functions to which they make references are recorded.
 pub(crate) fn convert_items(
     alloc: Global,
     env: &dyn TypeConvert,

@@ -41,8 +41,8 @@ pub(crate) struct ElementSegments {
     pub count: u32,
 }
 
-/// The element segments, converted; the functions to which their items make references are noted.
-/// Of a segment that is only declared nothing else is kept.
+/// The element segments, converted; the functions to which their items make references are
+/// recorded. Nothing else is kept of a segment that is only declared.
 pub(crate) fn convert_elements(
     alloc: Global,
     env: &dyn TypeConvert,

@@ -14,7 +14,7 @@ use wasm_index::StaticModuleIndex;
 use wasm_spec::UnpackedIndex;
 use wasm_types::{EngineOrModuleTypeIndex, Tunables, WasmHeapType};
 
-/// What a module is translated with. It owns no memory, so that it can be handed on whole.
+/// What a module is translated with. It owns no memory, so that it can be passed on as one value.
 #[derive(Drop)]
 pub struct ModuleEnvironment<'a, 'd> {
     pub(crate) tunables: &'a Tunables,
@@ -26,7 +26,8 @@ pub struct ModuleEnvironment<'a, 'd> {
 }
 
 impl<'a, 'd> ModuleEnvironment<'a, 'd> {
-    /// An environment of no type yet, for the types of a validator, which a builder that holds none takes up.
+    /// An environment with no type yet, for the types of a validator. The builder must be poisoned,
+    /// or new for that validator.
     pub fn new(
         alloc: Global,
         tunables: &'a Tunables,

@@ -15,13 +15,13 @@ use wasm_spec::What;
 /// Why bytes have no translation.
 #[derive(Clone, Copy, Debug, PartialEq, Eq, Error)]
 pub enum EnvironError {
-    /// The bytes spell no module, and reading them comes to no spelling that is not taken.
+    /// The bytes spell no module, and reading reaches no spelling that is not supported.
     #[error("the bytes spell no module")]
     Malformed,
     /// The module breaks a listed rule.
     #[error("the module breaks a rule")]
     Invalid(Rule),
-    /// Reading comes to a spelling that is not taken.
+    /// Reading reaches a spelling that is not supported.
     #[error("the module has a spelling that is not taken")]
     Unsupported(What),
     /// The input has 2^30 bytes or more.

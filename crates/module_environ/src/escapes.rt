@@ -44,7 +44,7 @@ impl Escaping {
         })
     }
 
-    /// Notes a reference to a function, of which only the first counts.
+    /// Records a reference to a function; only the first one has an effect.
     pub(crate) fn note_escape(&mut self, function: FuncIndex) -> Result<(), OutOfMemory>
         requires { number_of function < self.old.count }
         ensures { OnOk result (self.new ≡ after_escapes self.old (number_of function ∷ [])) }
@@ -52,7 +52,7 @@ impl Escaping {
         self.note_escape_at(function.index())
     }
 
-    /// Notes references to functions, in order.
+    /// Records references to functions, in order.
     pub(crate) fn note_escapes(&mut self, functions: &[FuncIndex]) -> Result<(), OutOfMemory>
         requires { All (λ f. number_of f < self.old.count) functions.now }
         ensures { OnOk result (self.new ≡ after_escapes self.old (map number_of functions.now)) }
@@ -63,7 +63,7 @@ impl Escaping {
         Ok(())
     }
 
-    /// Notes references to functions whose numbers follow each other.
+    /// Records references to functions with consecutive numbers.
     pub(crate) fn note_escape_range(&mut self, start: u32, count: u32) -> Result<(), OutOfMemory>
         requires { start + count ≤ self.old.count }
         ensures { OnOk result (self.new ≡ after_escapes self.old (range_with_len start count)) }
@@ -74,7 +74,7 @@ impl Escaping {
         Ok(())
     }
 
-    // Notes a reference to the function of a number.
+    // Records a reference to the function of a number.
     #[inline(always)]
     fn note_escape_at(&mut self, function: usize) -> Result<(), OutOfMemory>
         requires { function < self.old.count }
@@ -88,7 +88,8 @@ impl Escaping {
         Ok(())
     }
 
-    /// The number of a function among those to which references are made, and the reserved one for another.
+    /// The number of a function among those to which references are made, and the reserved one for
+    /// another function.
     pub(crate) fn number(&self, function: FuncIndex) -> FuncRefIndex
         requires { number_of function < self.now.count }
         ensures number { number_of result ≡ number_among self.now.order (number_of function) }
@@ -102,7 +103,7 @@ impl Escaping {
         }
     }
 
-    /// To how many functions references are made.
+    /// The number of functions to which references are made.
     pub(crate) fn len(&self) -> usize
         ensures len { result ≡ length self.now.order }
         ensures few { result ≤ self.now.count }

@@ -22,7 +22,8 @@ use wasm_index::{FuncIndex, GlobalIndex, MemoryIndex, TableIndex, TagIndex};
 use wasm_spec::ExternalKind;
 use wasm_types::EntityIndex;
 
-/// What is exported, in order; exported functions are noted. The names are the first texts of the pool.
+/// What is exported, in order; exported functions are recorded. The names are the first texts of
+/// the pool.
 pub(crate) fn convert_exports(
     alloc: Global,
     source: Source<'_, '_>,
@@ -38,7 +39,7 @@ pub(crate) fn convert_exports(
         ≡ after_escapes escaping.old (exported_functions (flat_map exports_of_section (source_module source.entry)))) }
     ensures pooled { IfOk result (λ es. All (λ e. HasText strings.now e.0) es.entries) }
 {
-    // An atom is a number of our own, which no name chooses: the map needs no seed.
+    // An atom is a number that this crate chooses, and no name affects it: the map needs no seed.
     let mut exports = IndexMap::new(alloc);
     exports.reserve(count_entries::<Export<'_>>(source))?;
     for export in entries_of::<Export<'_>>(source) {
@@ -48,7 +49,7 @@ pub(crate) fn convert_exports(
     Ok(exports)
 }
 
-/// Adds an export to those before, under the atom of its place.
+/// Adds an export to those before, under the atom of its position.
 fn add_export(
     entries: &mut IndexMap<Atom, EntityIndex>,
     strings: &StringPool,
@@ -78,7 +79,7 @@ fn exported_entity(export: &Export<'_>) -> EntityIndex
     }
 }
 
-/// Notes what is exported, where it is a function.
+/// Records what is exported, where it is a function.
 fn note_function(escaping: &mut Escaping, export: &Export<'_>) -> Result<(), OutOfMemory>
     requires { CanExport escaping.old.count (export_of export.now) }
     ensures { OnOk result (escaping.new ≡ after_escapes escaping.old (exported_functions (export_of export.now ∷ []))) }

@@ -11,7 +11,7 @@ use entity_map::OutOfMemory;
 use std::alloc::Global;
 use wasm_convert::{ConstExpr, TypeConvert};
 
-/// An expression, converted; the functions to which it makes references are noted.
+/// An expression, converted; the functions to which it makes references are recorded.
 #[inline(always)]
 pub(crate) fn convert_expression(
     alloc: Global,

@@ -1,4 +1,4 @@
-//! What the cells of the defined tables hold first.
+//! The first values of the cells of the defined tables.
 
 ghost use Rattle.std.specs.Prelude.{◌≡◌, ◌<◌, [], length, map, replicate, All, IfOk, IfSome, OnOk};
 ghost use Rattle.std.specs.List.{flat_map};
@@ -22,7 +22,7 @@ use wasm_convert::TypeConvert;
 use wasm_index::{DefinedTableIndex, FuncIndex};
 use wasm_module::TableInitialValue;
 
-/// The first values of the defined tables, in order; functions that they refer to are noted.
+/// The first values of the defined tables, in order; functions that they refer to are recorded.
 pub(crate) fn first_values(
     alloc: Global,
     env: &dyn TypeConvert,

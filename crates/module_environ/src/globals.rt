@@ -29,7 +29,7 @@ pub(crate) struct FirstGlobals {
     pub left: Vec<(DefinedGlobalIndex, ConstExpr)>,
 }
 
-/// How the defined globals begin; functions that their initialisers refer to are noted.
+/// How the defined globals begin; functions that their initialisers refer to are recorded.
 pub(crate) fn first_globals(
     alloc: Global,
     env: &dyn TypeConvert,

@@ -1,4 +1,4 @@
-//! What a translated module imports has a place among its imports.
+//! What a translated module imports has a position among its imports.
 
 ghost use Rattle.std.specs.Prelude.{◌≡◌, ℕ, Option, Some};
 ghost use Rattle.wasm_spec.specs.Module.{Module};
@@ -9,8 +9,8 @@ ghost use Rattle.wasm_module.specs.Record.{record_of};
 ghost use Rattle.init_plan.specs.declared.translation.ModuleTranslation.{ModuleTranslation};
 ghost use Rattle.module_environ.specs.Translation.{HasEntities, CountsImports};
 
-/// Each imported entity of a translated module is the one that some import brings: what
-/// `import_position` returns for it is a place, and `import_index` gives it back for that place.
+/// Each imported entity of a translated module is the one that some import brings.
+/// `import_position` returns a position for it, and `import_index` gives it back for that position.
 pub fn import_position_law()
     ensures { (m : Module) (t : ModuleTranslation) (e : EntityIndex) (answer : Option ℕ) → HasEntities m t → CountsImports m t.module
         → IsImported (record_of t.module) e → IsFirstImport (record_of t.module) e answer

@@ -31,7 +31,7 @@ pub(crate) struct ImportCounts {
 }
 
 impl ImportCounts {
-    /// Of no import.
+    /// The counts of no import.
     fn none() -> Self
         ensures { AreCounted [] result }
     {
@@ -71,7 +71,7 @@ fn take_next<Space>(count: &mut u32) -> Index<Space>
     index
 }
 
-/// What is imported, in order; the names go into the pool.
+/// What is imported, in order; the names are added to the pool.
 pub(crate) fn convert_imports(
     alloc: Global,
     source: Source<'_, '_>,

@@ -13,7 +13,7 @@
 //! let functions = translation.module.functions.len();
 //! ```
 //!
-//! After an error that is not `OutOfMemory` the builder is unchanged. Bodies and data stay slices
+//! After an error that is not `OutOfMemory` the builder is unchanged. Bodies and data remain slices
 //! of the input.
 //!
 //! Read on: `translating`, then `sections`; docs/ARCHITECTURE.md names the steps, and `init_plan`

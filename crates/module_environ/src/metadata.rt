@@ -20,7 +20,8 @@ use wasm_convert::TypeConvert;
 use wasm_spec::ValType;
 use wasm_types::{EngineOrModuleTypeIndex, WasmHeapType, WasmRefType, WasmValType};
 
-/// The parameters and the locals of each defined function, in order, where they are asked for.
+/// The parameters and the locals of each defined function, in order, where the caller requires
+/// them.
 pub(crate) fn function_metadata(
     alloc: Global,
     env: &dyn TypeConvert,
@@ -48,7 +49,7 @@ pub(crate) fn function_metadata(
 }
 
 /// The parameters of each declared type, which its functions share: a copy for each function could
-/// take the square of the input.
+/// need memory quadratic in the input.
 fn params_by_type(
     alloc: Global,
     env: &dyn TypeConvert,

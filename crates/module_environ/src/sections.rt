@@ -1,4 +1,5 @@
-//! The sections of a module as a translation holds them: all but types, tags, code and custom sections.
+//! The sections of a module as a translation holds them: all except types, tags, code and custom
+//! sections.
 
 ghost use Rattle.std.specs.Prelude.{◌≡◌, ◌<◌, ◌^◌, ◌++◌, ℕ, List, [], length, map, OnOk};
 ghost use Rattle.wasm_spec.specs.Module.{imports, function_import};
@@ -32,7 +33,8 @@ use wasm_index::TypeIndex;
 use wasm_module::Module;
 use wasm_types::EngineOrModuleTypeIndex;
 
-/// Fills an empty translation with the sections of a module, whose declared types the builder holds.
+/// Fills an empty translation with the sections of a module, whose declared types the builder
+/// holds.
 pub(crate) fn fill_sections<'d>(
     alloc: Global,
     debugged: bool,
@@ -73,7 +75,7 @@ pub(crate) fn fill_sections<'d>(
     Ok(())
 }
 
-/// Fills in the imports, and all index spaces but those of functions and tags.
+/// Fills in the imports, and all index spaces except those of functions and tags.
 fn fill_entities(
     alloc: Global,
     env: &dyn TypeConvert,
@@ -106,7 +108,7 @@ fn fill_entities(
     Ok(())
 }
 
-/// Fills in what tables and globals hold first, exports, and segments.
+/// Fills in the first contents of tables and globals, exports, and segments.
 fn fill_initialisers<'d>(
     alloc: Global,
     env: &dyn TypeConvert,

@@ -25,7 +25,7 @@ pub(crate) fn start_function(source: Source<'_, '_>) -> Option<FuncIndex>
     None
 }
 
-/// The start function that a section states.
+/// The start function that a section names.
 fn start_in(section: Section<'_, '_>) -> Option<u32>
     ensures { option_to_list result ≡ flat_map starts_of_section (sections_in section.entry) }
 {

@@ -17,7 +17,8 @@ use std::alloc::Global;
 use wasm_index::{TagIndex, TypeIndex};
 use wasm_types::{EngineOrModuleTypeIndex, Tag};
 
-/// The tags, each with its exception type, which the builder gains where it has none for that function type.
+/// The tags, each with its exception type. The builder adds one where it has none for that function
+/// type.
 pub(crate) fn convert_tags(
     alloc: Global,
     tags: &[u32],
@@ -30,7 +31,7 @@ pub(crate) fn convert_tags(
     ensures tags { IfOk result (λ converted. (m : Module) → CanTag m tags.now declared.now (builder_view types.old) → converted ≡ tags_of m) }
     ensures built { OnOk result ((m : Module) → CanTag m tags.now declared.now (builder_view types.old) → (builder_view types.new).built ≡ interned_list m false) }
     ensures gains { OnOk result (GainsExceptions (builder_view types.old) (builder_view types.new)) }
-    // There is room for one more type.
+    // There is capacity for one more type.
     ensures few { OnOk result (length types.new.list.types < 2 ^ 31 + 2 ^ 30) }
     ensures whole { OnOk result ((m : Module) → CanTag m tags.now declared.now (builder_view types.old)
         → builder_view types.new ≡ after_tags m tags.now (builder_view types.old) (length tags.now)) }

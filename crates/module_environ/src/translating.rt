@@ -63,21 +63,22 @@ impl<'a, 'd> ModuleEnvironment<'a, 'd> {
     ) -> Result<ModuleTranslation<'d>, EnvironError>
         requires types { self.types.now.is_poisoned ≡ false → builder_view self.types.now ≡ new_builder self.validator.now }
 
-        // The bytes spell a module that keeps the listed rules, and the translation is that of the module.
+        // The bytes spell a module that keeps the listed rules, and the translation is that of the
+        // module.
         ensures translated { IfOk result (λ t.
             IsTranslated self.entry.tunables.now self.entry.module_index self.entry.validator.now bytes.now t self.exit.1.1.0.now) }
 
-        // Each refusal has its cause; length goes first.
+        // Each error has its cause; the length is checked first.
         ensures cause { IfErr result (HasTranslationCause bytes.now self.entry.types.now.is_poisoned) }
         ensures too_long { 2 ^ 30 ≤ length bytes.now → result ≡ Err EnvironError.TooLarge }
 
-        // A module that keeps the rules has a translation, unless memory runs out; where the
-        // builder was poisoned, and only there, the answer is that it was.
+        // A module that keeps the rules has a translation, unless memory runs out. Where the
+        // builder was poisoned, and only there, the error says so.
         ensures complete { (m : Module) → IsReadable bytes.now m → Keeps m → self.entry.types.now.is_poisoned ≡ false → SucceedsOrNoMemory result }
         ensures poisoned { (m : Module) → IsReadable bytes.now m → Keeps m → self.entry.types.now.is_poisoned ≡ true → IsPoisonedOrNoMemory result }
 
-        // What is left of the builder: it is as it was after each refusal but that of memory, and
-        // where it was poisoned. Where memory ran out it is poisoned, or as it was, or it holds the
+        // The state of the builder: it is unchanged after each error except `OutOfMemory`, and
+        // where it was poisoned. Where memory ran out it is poisoned, or unchanged, or it holds the
         // first of the module's types and exception types.
         ensures refused { OnErr result (result ≢ Err EnvironError.OutOfMemory → self.exit.1.1.0.now ≡ self.entry.types.now) }
         ensures stays_poisoned { self.entry.types.now.is_poisoned ≡ true → self.exit.1.1.0.now ≡ self.entry.types.now }
@@ -132,7 +133,7 @@ fn translation_of<'d>(
     translation.wasm = bytes;
     match take_bodies(alloc, form) {
         Ok((bodies, place)) => {
-            // The list of before, which is empty, is dropped as a value of its own.
+            // The earlier list, which is empty, is dropped as a separate value.
             let _none = mem::replace(&mut translation.function_body_inputs, bodies);
             translation.debuginfo.wasm_file.code_section_offset = place;
             Ok(translation)
@@ -144,7 +145,7 @@ fn translation_of<'d>(
     }
 }
 
-/// Fills an empty translation with all of a module but its bytes and its code.
+/// Fills an empty translation with all of a module except its bytes and its code.
 fn translate_form<'d>(
     alloc: Global,
     tunables: &Tunables,
@@ -172,12 +173,14 @@ fn translate_form<'d>(
         return Err(EnvironError::Invalid(Rule::L1));
     };
     let (checked, names) = checked_lists(alloc, source, &ids)?;
-    // The rules asked for the types, and no list does from here on: they go into the translation.
+    // The rules needed the types, and no list needs them from here on: they go into the
+    // translation.
     let lists = checked.without_types(source);
     translate_lists(alloc, tunables, types, &lists, names, ids, translation)
 }
 
-/// Fills an empty translation with all of a module that keeps the rules, but its bytes and its code.
+/// Fills an empty translation with all of a module that keeps the rules, except its bytes and its
+/// code.
 fn translate_lists<'d>(
     alloc: Global,
     tunables: &Tunables,
@@ -194,7 +197,7 @@ fn translate_lists<'d>(
     requires types { types.old.is_poisoned ≡ false → builder_view types.old ≡ new_builder ids.validator }
     ensures formed { OnOk result
         (IsFormed tunables.now ids.validator (module_in lists.now) translation.old translation.new types.new) }
-    // That the builder is poisoned is told before anything asks for memory, and there is no other cause.
+    // A poisoned builder is reported before anything requests memory, and there is no other cause.
     ensures poisoned { types.old.is_poisoned ≡ true → (result ≡ Err EnvironError.Poisoned) × (types.new ≡ types.old) }
     ensures complete { types.old.is_poisoned ≡ false → SucceedsOrNoMemory result }
     ensures stops { types.old.is_poisoned ≡ false → types.new.is_poisoned ≡ false
@@ -253,7 +256,8 @@ fn fill_lists<'d>(
     Ok(())
 }
 
-/// Whether no global's initialiser is left, and there is no start function and no passive element segment.
+/// Whether no initialiser of a global remains, and there is no start function and no passive
+/// element segment.
 fn leaves_nothing(translation: &ModuleTranslation<'_>) -> bool
     ensures { let t = translation.now in
         result ≡ (is_empty t.global_initializers.items && is_none t.start_func && is_empty t.passive_elements) }

@@ -28,7 +28,7 @@ pub fn intern_types(
     requires new { builder_view builder.old ≡ new_builder types.now.validator }
     ensures indices { IfOk result (λ indices. (m : Module) → AreTypesOf m types.now → indices ≡ map type_index (declared m)) }
     ensures built { OnOk result ((m : Module) → AreTypesOf m types.now → (builder_view builder.new).built ≡ (taken (placed_groups m)).built) }
-    // Each index is that of a type that the builder holds, and there is room for more.
+    // Each index is that of a type that the builder holds, and there is capacity for more.
     ensures held { IfOk result (λ indices. AreHeld indices (length builder.new.list.types)) }
     ensures few { OnOk result (length builder.new.list.types < 2 ^ 31) }
     ensures alone { OnOk result (HoldsGroupsAlone types.now.validator (builder_view builder.new)) }

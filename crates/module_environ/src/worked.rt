@@ -28,7 +28,7 @@ pub fn worked_entities()
         ≡ (97 ∷ [], entity.Function (index_of 4)) ∷ (98 ∷ [], entity.Table (index_of 0)) ∷ [] }
 {}
 
-/// A defined function by its parameters and locals, where they are asked for.
+/// A defined function by its parameters and locals, where the caller requires them.
 pub fn worked_functions()
     ensures asked { functions_asked (look_up_in defining_module) (lists_of_module defining_module) true
         ≡ record { params = types.I32 ∷ types.I64 ∷ []; locals = (3, types.F32) ∷ [] } ∷ [] }

@@ -1,5 +1,5 @@
--- Trampolines: steps keep them where mapped types were met; each member of a group has one, and in
--- a module's list all functions but the startup type.
+-- Trampolines: each step keeps them at the indices of known mapped types. Each member of a group
+-- has one, and in a module's list all functions but the startup type have one.
 use Rattle.std.proofs.lemmas.Grind.{common_steps}
 use Rattle.std.proofs.Common.{◌≡◌, ◌<◌, ◌≤◌, ℕ, zero, suc, ◌+◌, ◌-◌, Bool, true, false, List, [], ◌∷◌, ◌++◌, length, get_or, set, replicate, map, Option, Some, None, refl, sym, ap, ◌∙◌, inl, inr, arith}
 use Rattle.std.specs.Prelude.{if◌then◌else◌, IsSome, slice_get, option_and_then}
@@ -32,7 +32,7 @@ within (t ∷ ts) (suc i) f e = let h = within ts i f e in omega (arith, h)
 func-same : (f g : Called) (c : Composite (Named ℕ) ℕ) → c ≡ Func f → c ≡ Func g → f ≡ g
 func-same f g c x y = let e : Func f ≡ Func g = sym x ∙ y in cc
 
--- ---- mapped types are met where they stand
+-- ---- mapped types are recorded at their indices
 
 module _ (b : Built) (tied : IsTied b) where
   -- types after the others, which have no trampolines
@@ -49,7 +49,7 @@ module _ (b : Built) (tied : IsTied b) where
   pub tied-alone : (t : Interned) → IsTied (alone b t None)
   tied-alone t = tied-more (t ∷ []) (b.groups ++ next_span b 1 ∷ [])
 
-  -- a function is called by what its mapped type was met at
+  -- a function is called by the type at which its mapped type was recorded
   pub tied-set : (i k : ℕ) (f : Called) → composite_at b.types i ≡ Func f → b.known_trampolines (mapped f) ≡ Some k → IsTied (with_trampoline b i k)
   tied-set i k f at is = grind (arith, length-set, cases_eq, within, get_or-set_same, func-same, get_or-set_other)
 
@@ -64,7 +64,7 @@ module _ (b : Built) (tied : IsTied b) where
     called-by g l is true same = grind (arith, same-mapped f (mapped g) same)
     called-by g l is false other = is
 
-    -- a mapped type that was not met is met where it stands
+    -- a mapped type that was not recorded is now recorded at its index
     pub tied-knows : IsTied (knows b (mapped f) k)
     tied-knows = record {
       sized = tied.sized;
@@ -72,7 +72,7 @@ module _ (b : Built) (tied : IsTied b) where
       called = λ i l g e at. called-by g l (tied.called i l g e at) (same_mapped (mapped f) (mapped g)) refl;
     }
 
--- the test finds a mapped type that was just met
+-- the test finds a mapped type that was just recorded
 met-now : (f : Called) (met : Called → Option ℕ) (k : ℕ) → now_known met (mapped f) k (mapped f) ≡ Some k
 met-now f met k = ap (λ t. if t then Some k else met (mapped f)) (mapped-same f (mapped f) refl)
 
@@ -198,7 +198,7 @@ module _ (b : Built) (sized : IsSized b) (ts : List Interned) where
   pub called-member : (i : ℕ) (f : Called) → composite_at ts i ≡ Func f → HasTrampoline (with_group b ts) (length b.types + i)
   called-member i f is = called-all (opened b ts) (length b.types) ts i f (omega (arith, opened-sized, length-append b.types ts)) is
 
--- ---- whole lists
+-- ---- complete lists
 
 -- each function has a trampoline
 record Entire (b : Built) : Type 0 where

@@ -1,4 +1,5 @@
--- Types that were met: chained by their digests, as the list grows and as one more is noted.
+-- Types that were recorded: chained by their digests, as the list grows and as one more is
+-- recorded.
 use Rattle.std.proofs.Common.{◌≡◌, ◌<◌, ◌≤◌, ℕ, zero, suc, ◌+◌, ◌-◌, Bool, true, false, cond, List, [], ◌∷◌, ◌++◌, length, take, map, Some, refl, sym, ap, ◌∙◌, inl, inr, arith, Option}
 use Rattle.std.specs.Prelude.{◌⊎◌, slice_get, nat_eq, if◌then◌else◌, option_and_then, IsSome}
 use Rattle.std.specs.Map.{lookup}
@@ -39,7 +40,7 @@ at-map f xs i x e = slice_get-map f xs i ∙ ap (option_map f) e
 taken-more : {X : Type 0} (xs : List X) (i : ℕ) (x : X) → slice_get xs i ≡ Some x → take (suc i) xs ≡ take i xs ++ x ∷ []
 taken-more xs i x e = grind (arith, take-suc xs i x, slice_get_within xs i x e, get_or_from_slice_get xs i x x e)
 
--- what stands in a list with one more at its end
+-- what a list with one more at its end holds
 pub last-or : {X : Type 0} (xs : List X) (x : X) (i : ℕ) (y : X) → slice_get (xs ++ x ∷ []) i ≡ Some y → (slice_get xs i ≡ Some y) ⊎ ((i ≡ length xs) × (x ≡ y))
 last-or [] x zero y e = let same : x ≡ y = cc in inr (refl, same)
 last-or [] x (suc i) y e = absurd cc
@@ -137,7 +138,7 @@ module _ (digest : WasmFuncType → ℕ) (newest : ℕ → ℕ) (rs : List Met) 
     pub chained-more : AreChained digest later all
     chained-more = record { first = first-more; next = next-more }
 
--- ---- types that stand in a list
+-- ---- types in a list
 
 abbrev part_of : WasmSubType → Option WasmFuncType
 part_of t = func_in t.composite_type.inner
@@ -175,7 +176,7 @@ module _ (types more : List WasmSubType) where
     pub linked-on : IsLinked (types ++ more) m
     linked-on = grind (arith, read-within, mets-within)
 
--- ---- one more is noted
+-- ---- one more is recorded
 
 module _ (types : List WasmSubType) (old new : MetTypes) (f : WasmFuncType) (ty : TypeIndex) (linked : IsLinked types old)
     (stands : part_at func_in types ty ≡ Some f) (digest : ℕ) (is : digest ≡ digest_of old.hasher f)
@@ -200,7 +201,7 @@ module _ (types : List WasmSubType) (old new : MetTypes) (f : WasmFuncType) (ty 
     puts = grind (arith, with-r, known-more, key-is-f, turned);
   }
 
--- ---- none was met
+-- ---- none was recorded
 
 pub linked-none : (types : List WasmSubType) (m : MetTypes) → m.types.items ≡ [] → ((q : ℕ) → newest_of m q ≡ 0) → IsLinked types m
 linked-none types m none nothing = grind arith

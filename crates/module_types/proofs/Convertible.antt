@@ -56,7 +56,7 @@ names-earlier first (g ∷ gs) (suc k) e =
 
 module _ (t : TypesData) (next : ℕ) (spans : List Span) (ids : ℕ → Option ℕ) (k : ℕ)
     (holds : (m j : ℕ) → ids m ≡ Some j → StandsInterned t spans m j) (room : ids k ≡ None → next + length (members_of t k) < 4294967295) where
-  -- an id of a group that stands, or of the one that comes next
+  -- an id of a group that is interned, or of the one that comes next
   pub index-known : (n : ℕ) → n < length (types_by_id t.groups) → (group_of_id t n ≡ k) ⊎ IsSome (ids (group_of_id t n)) → HasIndex t next spans ids n
   index-known n h held = record { within = h; stands = λ j e. holds (group_of_id t n) j e; room = λ none. by held none } where
     by : (group_of_id t n ≡ k) ⊎ IsSome (ids (group_of_id t n)) → ids (group_of_id t n) ≡ None → next + length (members_of t (group_of_id t n)) < 4294967295

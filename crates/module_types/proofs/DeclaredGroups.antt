@@ -61,7 +61,7 @@ module _ (m : plain.Module) (t : TypesData) (are : AreNumbered m t) (near : Name
   pub inside : (i : ℕ) → i < size all → i < length (plain.types m)
   inside i lt = omega (arith, lt, counted)
 
-  -- where the id of a declared type stands
+  -- the position of the id of a declared type
   pub record IdAt (i : ℕ) : Type 0 where
     pub known : group i < length t.groups
     pub members : members_of t (group i) ≡ named t.declared (home all i).members

@@ -1,5 +1,5 @@
--- Two lists of groups have equal interned lists exactly where they take equal groups in turn, and
--- what is built tells the groups that it was built of.
+-- Two lists of groups have equal interned lists exactly where they take equal groups in turn. What
+-- is built determines the groups that it was built of.
 use Rattle.std.proofs.lemmas.Grind.{common_steps}
 use Rattle.std.proofs.Common.{◌≡◌, ◌∙◌, ◌↔◌, ◌<◌, ℕ, List, [], ◌∷◌, length, map, sym, ap, arith, ◌++◌, refl, inl, inr, ◌+◌, ◌-◌, ◌≤◌, subst}
 use Rattle.std.proofs.lemmas.Bool.{false≢true}
@@ -20,7 +20,7 @@ use Rattle.type_spec.proofs.Equivalence.{type-turned, type-chained, groups-long}
 use Rattle.type_spec.proofs.Homes.{size, home-again}
 use Rattle.module_types.proofs.Telling.{Tells, same-at, told}
 
--- a type of the group that comes next, by its place in the list
+-- a type of the group that comes next, by its position in the list
 module _ (all : List (Group ℕ ℕ)) (number : ℕ → ℕ) (b : Built) (h : Home) (x : Next all number b h) where
   pub next-home : (r : ℕ) → h.start ≤ r → r < h.start + length h.members → home all r ≡ h
   next-home r low high = grind (arith, home-again)
@@ -38,14 +38,14 @@ module _ (ms ns : List (Group ℕ ℕ)) (number number' : ℕ
   abbrev Same : ℕ → ℕ → Type 0
   Same i j = SameType ms ns i j
 
-  -- an equal type of the other list has the same number
+  -- an equal type of the other list has the same index
   pub record Bridge (i : ℕ) : Type 0 where
     pub other : ℕ
     pub lt : other < size ns
     pub same : SameType ms ns i other
     pub number_is : number i ≡ number' other
 
-  -- where there is one, numbers tell the types of the other list from it
+  -- where there is one, indices distinguish the types of the other list from it
   across : (i j : ℕ) → Bridge i → j < size ns → (number i ≡ number' j) ↔ SameType ms ns i j
   across i j b lt = (
     (λ same. type-chained ms ns ns i b.other j b.same ((exact' b.other j b.lt lt).0 (sym b.number_is ∙ same))),

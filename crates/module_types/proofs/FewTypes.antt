@@ -18,7 +18,7 @@ pub group-few : (b : Built) (ts : List Interned) → length (with_group b ts).ty
 group-few b ts = omega (arith, steps-few ts (opened b ts) (length b.types), length-append b.types ts)
 
 module _ (all : List (Group ℕ ℕ)) where
-  -- the groups that start before a place end before another
+  -- the groups that start before a position end before another
   abbrev End : ℕ → ℕ → Type 0
   End n end = (i : ℕ) → i < size all → (home all i).start < n → (home all i).start + length (home all i).members ≤ end
 

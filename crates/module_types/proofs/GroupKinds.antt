@@ -14,13 +14,13 @@ pub kinds-mapped : {H I R S : Type 0} (h : H → I) (f : R → S) (ts : List (Su
 kinds-mapped h f [] = refl
 kinds-mapped h f (t ∷ ts) = λ i. kind-mapped h f t.composite.inner i ∷ kinds-mapped h f ts i
 
--- lists of the same kinds are as long
+-- lists of the same kinds have the same length
 pub same-long : {H I R S : Type 0} (ts : List (SubType H R)) (us : List (SubType I S)) → kinds_of ts ≡ kinds_of us → length ts ≡ length us
 same-long {H} {I} {R} {S} ts us same =
     sym (length-map ts (λ (t : SubType H R). kind_of_type t.composite.inner)) ∙ ap length same
     ∙ length-map us (λ (t : SubType I S). kind_of_type t.composite.inner)
 
--- types that stand in a list stand there once others come behind
+-- types in a list remain in it where others are appended
 pub taken-on : {X : Type 0} (n start : ℕ) (xs ys : List X) → length (take n (drop start xs)) ≡ n → take n (drop start (xs ++ ys)) ≡ take n (drop start xs)
 taken-on zero start xs ys there = refl
 taken-on (suc n) zero [] ys there = absurd (omega (arith, there))
@@ -28,6 +28,6 @@ taken-on (suc n) zero (x ∷ xs) ys there = ap (λ zs. x ∷ zs) (taken-on n zer
 taken-on (suc n) (suc start) [] ys there = absurd (omega (arith, there))
 taken-on (suc n) (suc start) (x ∷ xs) ys there = taken-on (suc n) start xs ys there
 
--- what stands behind a list
+-- what follows a list
 pub taken-behind : {X : Type 0} (n : ℕ) (xs ys zs : List X) → length ys ≡ n → take n (drop (length xs) (xs ++ (ys ++ zs))) ≡ ys
 taken-behind n xs ys zs long = grind (arith, drop_at, take_at)

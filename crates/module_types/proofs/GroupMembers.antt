@@ -1,4 +1,5 @@
--- Groups and the steps that follow them: what each step keeps, all keep, and so does a whole list.
+-- Groups and the steps that follow them: what each step keeps, all keep, and so does a complete
+-- list.
 use Rattle.std.proofs.Common.{◌≡◌, ◌≤◌, ◌<◌, ℕ, zero, suc, ◌+◌, List, [], ◌∷◌, ◌++◌, length, set, drop, Bool, true, false, Option, Some, None, refl, sym, ap, ◌∙◌, arith, get_or, map}
 use Rattle.std.specs.Prelude.{◌==◌, if◌then◌else◌}
 use Rattle.std.proofs.lemmas.List.{append_assoc, append-nil, length-append, get_or_at, get_or_append_left, drop_at, take_at}
@@ -168,7 +169,7 @@ module _ (old now : Built) (first i : ℕ) (a : Along old now first i) (h : i < 
   pub along-room : length made.types ≤ length (assign_trampolines old first (drop first old.types)).types
   along-room = grind (arith, extends-long, extends-steps, stepped)
 
--- ---- where groups stand
+-- ---- where groups are
 
 -- what a list has where a group was opened
 module _ (b : Built) (ts : List Interned) (c : Built) (x : Extends (opened b ts) c) where
@@ -211,7 +212,7 @@ first-group b ts tss =
 pub longer : (b : Built) (ts : List Interned) (tss : List (List Interned)) → 0 < length ts → b.types ≡ (with_groups b (ts ∷ tss)).types → ⊥
 longer b ts tss filled same = grind (arith, first-group b ts tss, types-apart, length-append)
 
--- ---- what each group keeps holds of what is taken of a module
+-- ---- what each group keeps holds of the groups taken of a module
 
 module _ (P : Built → Type 0) (group : (b : Built) → P b → (ts : List Interned) → P (with_group b ts)) where
   through-groups : (all : List (Group ℕ ℕ)) (hs : List Home) (t : Taking) → P t.built → P (fold (take_group all) t hs).built
@@ -222,7 +223,7 @@ module _ (P : Built → Type 0) (group : (b : Built) → P b → (ts : List Inte
   pub through-taken : P empty → (ms : List (Group ℕ ℕ)) → P (taken ms).built
   through-taken p ms = through-groups ms (taken_groups ms) none_taken p
 
--- ---- what exception types and the startup type keep holds of the whole list
+-- ---- what exception types and the startup type keep holds of the complete list
 
 -- what holds of each index holds of the tags
 all-each : {A : Type 0} (Q : ℕ → Type 0) (number : A → ℕ) → ((x : A) → Q (number x)) → (xs : List A) → All Q (map number xs)

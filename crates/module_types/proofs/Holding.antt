@@ -21,11 +21,11 @@ use Rattle.wasm_index.specs.declared.spaces.ModuleInternedRecGroupSpace.{ModuleI
 use Rattle.wasm_index.specs.Index.{number_of, index_of}
 use Rattle.module_types.specs.Views.{TypeIndex, interned_of}
 
--- one more number is noted
+-- one more index is recorded
 abbrev Notes : List (Option ℕ) → List (Option ℕ) → ℕ → ℕ → Type 0
 Notes before after id n = noted_at after ≡ noted (noted_at before) id n
 
--- a state shows a builder that has its parts
+-- a state represents a builder that has its parts
 shows : (s : BuilderState) (b : Builder) → s.validator ≡ b.validator → (builder_view s).built ≡ b.built → noted_at s.ids ≡ b.ids
     → noted_at s.exceptions ≡ b.exceptions → option_map number_of s.startup ≡ b.startup → s.is_poisoned ≡ b.is_poisoned → builder_view s ≡ b
 shows s b validator built ids exceptions startup poisoned = grind arith

@@ -73,7 +73,7 @@ all-twice (v ∷ vs) = grind (arith, (all-twice vs))
 pub mapped-twice : (f : Called) → mapped (mapped f) ≡ mapped f
 mapped-twice f = λ i. record { params = all-twice f.params i; results = all-twice f.results i }
 
--- the test tells mapped types
+-- the test distinguishes mapped types
 module _ (f g : Called) where
   tie : func.ghosts.eq (trampoline_of (function_at f)) (function_at g) ≡ same_mapped (mapped f) g
   tie = key-is (function_at f) (function_at g) ∙ (λ i. same_mapped (mapped (function-back f i)) (function-back g i))

@@ -34,7 +34,7 @@ earlier-below (g ∷ gs) start n earlier le =
 back : EngineOrModuleTypeIndex → EngineOrModuleTypeIndex
 back e = index_at (interned_number e)
 
--- a reference that is a number below the reserved one is a module's index
+-- a reference that is an index below the reserved one is a module's index
 one-back : (e : EngineOrModuleTypeIndex) → interned_number e < 4294967295 → back e ≡ e
 unfolding back
 one-back e h1 = grind (arith, common_steps)
@@ -44,7 +44,7 @@ all-back : (n : ℕ) → n ≤ 4294967295 → (es : List EngineOrModuleTypeIndex
 all-back n few [] all = refl
 all-back n few (e ∷ es) all = grind (arith, All-head, All-tail, one-back, (all-back n few es (All-tail (λ r. r < n) (interned_number e) (map (λ (r : ℕ). r) (map interned_number es)) all)))
 
--- data whose references are so is had back
+-- data whose references are so is converted back
 had-back : (n : ℕ) → n ≤ 4294967295 → (x : Group Name EngineOrModuleTypeIndex) → AllBelow n (unkinded (map_group (named interned_number) interned_number x))
     → map_group (named index_at) index_at (map_group (named interned_number) interned_number x) ≡ x
 unfolding back

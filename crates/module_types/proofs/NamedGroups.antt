@@ -33,9 +33,9 @@ use Rattle.module_types.proofs.NamedLists.{well-empty, well-group, well-exceptio
 use Rattle.module_types.proofs.Standing.{joined-from}
 use Rattle.module_types.proofs.ListedLists.{earlier-below}
 
--- ---- kinds at places
+-- ---- kinds at positions
 
--- a member of some types that stand in a list from an index on, and its kind
+-- a member of some types that are in a list from an index on, and its kind
 record HasKind (ts : List Interned) (i : ℕ) (kind : NameKind) : Type 0 where
   pub inside : i < length ts
   pub is : kind_in ts i ≡ kind
@@ -108,7 +108,7 @@ module _ (t : TypesData) (b : Builder) (k : ℕ) (can : CanIntern t b k) (sound 
         ∙ ap (λ (s : SubType UnpackedIndex UnpackedIndex). kind_of_type s.composite.inner)
         (get_or-flat_map (λ (h : List (SubType UnpackedIndex UnpackedIndex)). h) t.groups g p [] some known member-inside)
 
-    -- where its group stands, or comes next
+    -- where its group is, or comes next
     found-by : (o : Option ℕ) → b.ids g ≡ o → (g ≡ k) ⊎ IsSome o
         → HasKind (b.built.types ++ next) (start_by t (length b.built.types) b.built.groups b.ids o + p) kind-there
     found-by (Some j) held named =

@@ -145,7 +145,7 @@ module _ (kind : ℕ → NameKind) (number : ℕ → ℕ) where
   member-named (t ∷ ts) (suc p) lt = member-named ts p (omega arith)
 
 module _ (all : List (Group ℕ ℕ)) (number : ℕ → ℕ) (exact : IsExactBelow all number (size all)) where
-  -- a type's number is an index at which there is a type of its kind
+  -- the index of a type is one at which there is a type of its kind
   pub record IsThere (b : Built) (i : ℕ) : Type 0 where
     pub lt : number i < length b.types
     pub kind : kind_in b.types (number i) ≡ kind_at all i
@@ -154,7 +154,7 @@ module _ (all : List (Group ℕ ℕ)) (number : ℕ → ℕ) (exact : IsExactBel
     abbrev next : List Interned
     next = form all number h
 
-    -- a member of the group, by its place in the list
+    -- a member of the group, by its position in the list
     member-kind : (r : ℕ) → h.start ≤ r → r < h.start + length h.members → kind_in (b.types ++ next) (number r) ≡ kind_at all r
     member-kind r low high =
         grind (arith, next-home all number b h x r low high, next-place all number b h x r low high, next-number all number b h x r low high, composite-behind, member-named, home-kind)

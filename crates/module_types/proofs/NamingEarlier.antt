@@ -1,4 +1,5 @@
--- In a module that keeps the rules each reference names a type of its own group or of an earlier one.
+-- In a module that keeps the rules each reference names a type of its own group or of an earlier
+-- one.
 use Rattle.std.proofs.Common.{ℕ, ◌+◌, List, [], ◌∷◌, length, map, sym, subst}
 use Rattle.std.specs.List.{All}
 use Rattle.std.proofs.lemmas.List.{length-map}

@@ -16,7 +16,7 @@ in-parts zero v rest n k e = grind arith
 in-parts (suc m) v rest zero k e = inl (omega arith, cc)
 in-parts (suc m) v rest (suc n) k e = grind (arith, (in-parts m v rest n k e))
 
--- an id is that of a member of a group, which is at a place of the groups from one on
+-- an id is that of a member of a group, which is at a position of the groups from one on
 pub record IsIn (base : ℕ) (gs : List NamedGroup) (n k : ℕ) : Type 0 where
   pub place : ℕ
   pub number : k ≡ base + place

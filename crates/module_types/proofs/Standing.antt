@@ -1,4 +1,4 @@
--- The groups of a well named list, where they stand.
+-- The groups of a well named list, and their positions.
 use Rattle.std.proofs.Common.{◌≡◌, ◌∙◌, ◌<◌, ◌≤◌, ℕ, zero, suc, ◌+◌, ◌-◌, List, [], ◌∷◌, length, drop, get_or, sym, ap, subst, arith}
 use Rattle.std.proofs.lemmas.List.{map-append, take-append-drop, drop-drop, drop-map, take-map}
 use Rattle.std.proofs.Math.ListN.{drop_of_length-le}
@@ -14,7 +14,7 @@ use Rattle.module_types.specs.ListGroups.{unkinded, types_in, home_of, list_grou
 use Rattle.module_types.proofs.GroupKinds.{kind-mapped}
 use Rattle.module_types.proofs.WellNamed.{AllBelow, groups_of, span-ends, groups-size, types-long, unkinded-long, lie-low}
 
--- a group with a number, in spans that begin at an index
+-- a group with an index, in spans that begin at an index
 pub record StandsFrom (ts : List Interned) (ss : List Span) (first end : ℕ) (s : Span) : Type 0 where
   pub low : first ≤ s.start
   pub some : s.start < s.end

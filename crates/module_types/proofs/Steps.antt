@@ -47,7 +47,7 @@ pub composite-read : (ts : List WasmSubType) (i : ℕ) (x : WasmSubType) → sli
     → (c : WasmCompositeInnerType) → x.composite_type.inner ≡ c → composite_at (map interned_of ts) i ≡ inner_of c
 composite-read ts i x read c is = read-at ts i x read ∙ ap inner_of is
 
--- ---- a type of its own
+-- ---- a type alone
 
 module _ (l : TypeList) (get : WasmFuncType → Option TypeIndex) where
   abbrev held : Built
@@ -82,7 +82,7 @@ pub record Grown (old now : Interner) (ts : List Interned) (n : ℕ) : Type 0 wh
   pub is : now ≡ record old { list = with_types old.list more }
   pub are : map interned_of more ≡ take n ts
 
--- what is known once a key is noted that a type stands for
+-- what is known once a key that represents a type is recorded
 noted-by : (get : WasmFuncType → Option TypeIndex) (key : WasmFuncType) (m : Called) → ((g : Called) → func.ghosts.eq key (function_at g) ≡ same_mapped m g)
     → (later : WasmFuncType → Option TypeIndex) (k : TypeIndex) → ((q : WasmFuncType) → later q ≡ cond (func.ghosts.eq key q) (Some k) (get q)) → (g : Called)
     → option_map number_of (later (function_at g)) ≡ now_known (λ h. option_map number_of (get (function_at h))) m (number_of k) g
@@ -149,7 +149,7 @@ module _ (l : TypeList) (get : WasmFuncType → Option TypeIndex) where
       (λ j. knows (alone (called-is l get i k j) (plain (Func f)) (Some (number_of k))) f (number_of k))
       ∙ ap (λ n. alone (with_trampoline (knows (built_of l get) f n) i n) (plain (Func f)) (Some n)) count
 
-  -- a type that is its own mapped type is noted
+  -- a type that is its own mapped type is recorded
   module _ (f : WasmFuncType) (own : trampoline_of f ≡ f) (later : WasmFuncType → Option TypeIndex) (k : TypeIndex)
       (puts : (q : WasmFuncType) → later q ≡ cond (func.ghosts.eq f q) (Some k) (get q)) where
     pub noted-is : built_of l later ≡ knows (built_of l get) (called_of f) (number_of k)

@@ -1,5 +1,5 @@
--- What the taking of a list's groups makes: the groups that are taken get the next indices, and
--- each type has that of the first equal one.
+-- What taking the groups of a list makes: the groups that are taken get the next indices, and each
+-- type has that of the first equal one.
 use Rattle.std.proofs.Common.{◌≡◌, ◌∙◌, ◌↔◌, ◌⊎◌, inl, inr, ℕ, zero, suc, ◌+◌, ◌-◌, ◌<◌, ◌≤◌, Bool, true, false, ◌||◌, List, [], ◌∷◌, ◌++◌, length, get_or, map, refl, sym, ap, subst, arith}
 use Rattle.std.specs.List.{All, fold, list_any, range_with_len}
 use Rattle.std.proofs.lemmas.Bool.{cases_lt, cases_eq, cases_Bool, or_cases, or_left, or_right}
@@ -32,7 +32,7 @@ near-from (g ∷ gs) start i low lt near =
     ]
 
 module _ (all : List (Group ℕ ℕ)) where
-  -- ---- types, and the groups that they stand in
+  -- ---- types, and their groups
 
   pub first-home : (i : ℕ) → i < size all → home all (home all i).start ≡ home all i
   first-home i lt = grind (arith, home-within, home-again)
@@ -40,7 +40,7 @@ module _ (all : List (Group ℕ ℕ)) where
   pub first-place : (i : ℕ) → i < size all → (home all i).start - (home all (home all i).start).start ≡ 0
   first-place i lt = ap (λ (h : Home). (home all i).start - h.start) (first-home i lt) ∙ omega arith
 
-  -- types are equal where the first types of their groups are, and they stand at one place
+  -- types are equal where the first types of their groups are, and they are at one position
   pub starts-same : (i j : ℕ) → i < size all → j < size all → SameType all all i j → SameType all all (home all i).start (home all j).start
   starts-same i j lt lt' same =
       type-beside all all i j (home all i).start (home all j).start same (first-home i lt) (first-home j lt') (first-place i lt ∙ sym (first-place j lt'))
@@ -96,7 +96,7 @@ module _ (all : List (Group ℕ ℕ)) where
   pub met-same : (done : List Home) (g h : Home) → SameType all all g.start h.start → is_met done g ≡ is_met done h
   met-same done g h same = ap (λ (p : Home → Bool). list_any p done) (λ t k. equal-alike k g h same t)
 
-  -- where one group more was taken, its own types are met too
+  -- where one group more was taken, its own types are in the taken groups too
   module _ (done : List Home) (h : Home) (i : ℕ) where
     with_one : is_met (done ++ h ∷ []) (home all i) ≡ (is_met done (home all i) || (equal_groups all h (home all i) || false))
     with_one = list_any-append (λ g. equal_groups all g (home all i)) done (h ∷ [])
@@ -110,21 +110,21 @@ module _ (all : List (Group ℕ ℕ)) where
     pub met-either : IsMet (done ++ h ∷ []) i → IsMet done i ⊎ IsEqual h i
     met-either met = grind (arith, or_cases, with_one)
 
-  -- each type before a group that is taken is met in those before it, and in the end each type is
+  -- each type before a group that is taken is in those before it, and in the end each type is
   abbrev pub Covers : List Home → List Home → Type 0
   Covers done [] = (i : ℕ) → i < size all → IsMet done i
   Covers done (h ∷ hs) = ((i : ℕ) → i < h.start → IsMet done i) × Covers (done ++ h ∷ []) hs
 
   -- ---- one type after another
 
-  -- the groups that are taken of the types before a place, and what they become
+  -- the groups that are taken of the types before a position, and what they become
   abbrev pub done_at : ℕ → List Home
   done_at n = firsts_by (equal_groups all) (map (home all) (range_with_len 0 n))
 
   abbrev pub state : ℕ → Taking
   state n = fold (take_group all) none_taken (done_at n)
 
-  -- a type that is met changes nothing, and the group of another is taken
+  -- a type that is present changes nothing, and the group of another is taken
   pub step-by : (n : ℕ) (Q : List Home → Taking → Type 0) → (IsMet (done_at n) n → Q (done_at n) (state n))
       → (is_met (done_at n) (home all n) ≡ false → Q (done_at n ++ home all n ∷ []) (take_group all (state n) (home all n)))
       → Q (done_at (n + 1)) (state (n + 1))
@@ -142,10 +142,10 @@ module _ (all : List (Group ℕ ℕ)) where
       let at : n + 1 ≡ suc n = omega arith in
       subst (λ k. Q k (done_at k) (state k)) at (step-by n (Q (n + 1)) (old n lt p) (new n lt p))
 
-  -- ---- what holds once the types before a place were taken
+  -- ---- what holds once the types before a position were taken
 
   pub record Reaches (n : ℕ) (done : List Home) (t : Taking) : Type 0 where
-    -- each type is met whose group starts before the place
+    -- each type is present whose group starts before the position
     pub before : (i : ℕ) → i < size all → (home all i).start < n → IsMet done i
     pub below : (i : ℕ) → i < size all → IsMet done i → t.number i < length t.built.types
     pub same : (i j : ℕ) → i < size all → j < size all → SameType all all i j → t.number i ≡ t.number j
@@ -212,7 +212,7 @@ module _ (all : List (Group ℕ ℕ)) where
       })
       (λ n inside r unmet. reaches-new (done_at n) (state n) (home all n) unmet n inside refl r)
 
-  -- a type that is met stays so, at its index
+  -- a type that is present stays so, at its index
   kept : (k n i : ℕ) → IsMet (done_at n) i → IsMet (done_at (n + k)) i × ((state (n + k)).number i ≡ (state n).number i)
   kept zero n i met = grind arith
   kept (suc k) n i met =
@@ -223,7 +223,7 @@ module _ (all : List (Group ℕ ℕ)) where
       (step-by m (λ d t. IsMet d i × (t.number i ≡ (state n).number i)) (λ old. p)
       (λ unmet. (met-before (done_at m) (home all m) i p.0, number-old (done_at m) (state m) (home all m) unmet i p.0 ∙ p.1)))
 
-  -- the interned index of the type at a place
+  -- the interned index of the type at a position
   abbrev pub number_in : ℕ → ℕ
   number_in i = get_or (taken all).declared i 0
 
@@ -282,7 +282,7 @@ module _ (all : List (Group ℕ ℕ)) where
     r : Reaches n d t
     r = reaches n (omega (arith, inside))
 
-    -- it starts at the place
+    -- it starts at the position
     pub starts-here : here.start ≡ n
     starts-here = grind (arith, cases_lt, r, home-start)
 
@@ -297,7 +297,7 @@ module _ (all : List (Group ℕ ℕ)) where
         step-by n (λ e s. (IsMet e i → number_in i ≡ s.number i) → IsMet (d ++ here ∷ []) i → number_in i ≡ later.number i)
         (λ old. absurd (let no : false ≡ true = sym unmet ∙ old in cc)) (λ new same. same) (reads (n + 1) i (omega (arith, inside)) lt)
 
-    -- a type of an equal group has its index by its place
+    -- a type of an equal group has its index by its position
     pub number-here : (i : ℕ) → i < size all → IsEqual here i → number_in i ≡ length t.built.types + (i - (home all i).start)
     number-here i lt e = reads-here i lt (met-now d here i e) ∙ number-new d t here unmet i e
 

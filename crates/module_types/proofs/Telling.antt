@@ -1,4 +1,5 @@
--- Two groups become one, where each reference is given by what it names, exactly where the groups are equal.
+-- Two groups become one, where each reference is given by what it names, exactly where the groups
+-- are equal.
 use Rattle.std.proofs.Common.{arith}
 use Rattle.std.proofs.Common.{◌≡◌, ◌↔◌, ℕ, ◌-◌, ◌<◌, ◌≤◌, Bool, true, false, nat_le, List, refl}
 use Rattle.std.specs.List.{All}
@@ -14,7 +15,8 @@ module _ {X : Type 0} (ms ns : List (Group ℕ ℕ)) (h k : Home) (end end' : �
   abbrev Same : ℕ → ℕ → Type 0
   Same i j = SameType ms ns i j
 
-  -- inside the groups places are told, outside types, and neither is given as the other
+  -- references inside the groups are distinguished by position, those outside by type, and neither
+  -- is given as the other
   pub record Tells : Type 0 where
     pub near : All (λ r. r < end) (group_edges (λ r. r) h.members)
     pub near' : All (λ r. r < end') (group_edges (λ r. r) k.members)

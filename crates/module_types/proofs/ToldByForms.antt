@@ -1,5 +1,5 @@
--- Canonical forms of groups of two interned lists are equal exactly where the groups are; where
--- they decide which types have one index, the indices tell the types.
+-- Canonical forms of groups of two interned lists are equal exactly where the groups are. Where
+-- they decide which types have one index, the indices distinguish the types.
 use Rattle.std.proofs.Common.{◌≡◌, ◌∙◌, ◌↔◌, ℕ, zero, suc, ◌<◌, ◌≤◌, Bool, true, false, nat_lt, List, [], ◌∷◌, length, get_or, refl, sym, arith, ◌-◌, ap}
 use Rattle.std.proofs.lemmas.Bool.{ltb-true, ltb-false, lt-ltb, le-ltb}
 use Rattle.type_spec.specs.Equality.{SameGroup, SameType, Home, home}
@@ -122,7 +122,7 @@ module _ (b b' : Built) (w : IsWellNamed b) (w' : IsWellNamed b') (engine engine
         (λ same. tells_views group_back x' y' (left ∙ groups.1 same ∙ sym right)),
       )
 
--- what tells all types tells those before two groups
+-- what distinguishes all types distinguishes those before two groups
 pub all-before : (b b' : Built) (w : IsWellNamed b) (w' : IsWellNamed b') (engine engine' : EngineMap) → TellTypes b b' engine engine'
     → (k l : ℕ) → k < length b.groups → l < length b'.groups → TellTypesBefore b b' engine engine' (span_at b k).start (span_at b' l).start
 all-before b b' w w' engine engine' told k l lt lt' i j before before' =
@@ -151,7 +151,7 @@ module _ (b b' : Built) (w : IsWellNamed b) (w' : IsWellNamed b') (engine engine
   abbrev TellsAt : ℕ → ℕ → Type 0
   TellsAt i j = (engine (index_of i) ≡ engine' (index_of j)) ↔ SameType (list_groups b) (list_groups b') i j
 
-  -- types of two groups, where all before the two are told
+  -- types of two groups, where all before the two are distinguished
   tell-in : (i j k l : ℕ) → k < length b.groups → l < length b'.groups
       → (span_at b k).start ≤ i → i < (span_at b k).end → (span_at b' l).start ≤ j → j < (span_at b' l).end
       → TellTypesBefore b b' engine engine' (span_at b k).start (span_at b' l).start → TellsAt i j

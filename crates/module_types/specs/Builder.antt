@@ -1,4 +1,4 @@
--- What a caller sees of a builder, and what each growing call makes of it.
+-- What a caller sees of a builder, and how each growing call changes it.
 use Rattle.std.specs.Prelude.{ℕ, Bool, true, false, nat_eq, List, length, Option, Some, None, if◌then◌else◌}
 use Rattle.std.specs.Option.{option_map}
 use Rattle.std.specs.Map.{lookup}
@@ -13,9 +13,9 @@ use Rattle.module_types.specs.TypeList.{TypeList}
 use Rattle.module_types.specs.Held.{built_of}
 use Rattle.module_types.specs.Noted.{noted_at}
 
--- what a builder keeps: the validator's number, its list, and the mapped types that were met with
--- their indices, in some order; and two lists: at the place of an id the group that was interned
--- under it, and at the place of a function type its exception type
+-- what a builder keeps: the validator's number, its list, and the recorded mapped types with their
+-- indices, in some order; and two lists: at the index of an id the group that was interned under
+-- it, and at the index of a function type its exception type
 pub record BuilderState : Type 0 where
   pub validator : ℕ
   pub list : TypeList
@@ -35,7 +35,7 @@ pub record Builder : Type 0 where
   pub startup : Option ℕ
   pub is_poisoned : Bool
 
--- what it shows
+-- the view of a builder
 abbrev pub builder_view : BuilderState → Builder
 builder_view k = record {
   validator = k.validator;
@@ -59,7 +59,7 @@ new_builder validator = record {
   is_poisoned = false;
 }
 
--- one more number is noted
+-- one more index is recorded
 abbrev pub noted : (ℕ → Option ℕ) → ℕ → ℕ → ℕ → Option ℕ
 noted at n k m = if nat_eq n m then Some k else at m
 
@@ -77,7 +77,8 @@ abbrev pub interns_by : Builder → ℕ → List Interned → Option ℕ → Bui
 interns_by b id ts (Some k) = b
 interns_by b id ts None = record b { built = with_group b.built ts; ids = noted b.ids id (length b.built.groups) }
 
--- where the id is held nothing changes, and otherwise the group is appended with its missing trampolines
+-- where the id is held nothing changes, and otherwise the group is appended with its missing
+-- trampolines
 abbrev pub interns : Builder → ℕ → List Interned → Builder
 interns b id ts = interns_by b id ts (b.ids id)
 

@@ -11,7 +11,7 @@ use Rattle.module_types.specs.Views.{TypeIndex}
 
 -- what a closure may return at an index, and how many types are interned
 module _ (Gives : Index TypeSpace → TypeIndex → Type 0) (count : ℕ) where
-  -- its one answer for a type of the module: an interned type
+  -- its one result for a type of the module: an interned type
   pub record Answer (i : ℕ) : Type 0 where
     pub number : ℕ
     pub given : ∥ Gives (index_of i) (index_of number) ∥₁
@@ -22,7 +22,7 @@ module _ (Gives : Index TypeSpace → TypeIndex → Type 0) (count : ℕ) where
   abbrev pub AnswersBelow : ℕ → Type 0
   AnswersBelow bound = (i : ℕ) → i < bound → Answer i
 
-  -- so no two answers differ
+  -- so no two results differ
   answer-is : (i : ℕ) (x : Answer i) (n : ℕ) → x.number ≡ n → (g : ∥ Gives (index_of i) (index_of n) ∥₁)
       (a : (r : TypeIndex) → Gives (index_of i) r → number_of r ≡ n) (h : n < count) → x ≡ record { number = n; given = g; alone = a; held = h }
   answer-is i x n e =

@@ -1,5 +1,5 @@
 -- What the references of a group become that names types by ids: inside the group the next index
--- plus the place, outside the index of an interned type.
+-- plus the position in it, outside the index of an interned type.
 use Rattle.std.specs.Prelude.{◌≡◌, ◌<◌, ◌⊎◌, ℕ, ◌+◌, ◌-◌, get_or, List, [], All, length, map, take, drop, slice_get, Option, Some, None, IsSome}
 use Rattle.wasm_spec.specs.declared.types.UnpackedIndex.{UnpackedIndex}
 use Rattle.wasm_spec.specs.declared.types.UnpackedIndex.TheVariants as index
@@ -37,12 +37,12 @@ module _ {H R : Type 0} where
   abbrev pub kinds_of : List (SubType H R) → List NameKind
   kinds_of ts = map (λ (t : SubType H R). kind_of_type t.composite.inner) ts
 
--- a group stands under its id with all its members
+-- a group is interned under its id with all its members
 pub record StandsInterned (t : TypesData) (spans : List Span) (k j : ℕ) : Type 0 where
   pub within : j < length spans
   pub whole : (get_or spans j no_span).end ≡ (get_or spans j no_span).start + length (members_of t k)
 
--- it stands so, and its members are of the kinds of those in the list of types
+-- it is interned so, and its members are of the kinds of those in the list of types
 pub record HoldsGroup (t : TypesData) (types : List Interned) (spans : List Span) (k j : ℕ) : Type 0 where
   pub stands : StandsInterned t spans k j
   pub kinds : kinds_of (take (length (members_of t k)) (drop (get_or spans j no_span).start types)) ≡ kinds_of (members_of t k)
@@ -50,12 +50,13 @@ pub record HoldsGroup (t : TypesData) (types : List Interned) (spans : List Span
 -- a list of types by ids; the next index, the indices of each interned group, and the group that
 -- was interned under each id of a group
 module _ (t : TypesData) (next : ℕ) (spans : List Span) (ids : ℕ → Option ℕ) where
-  -- where the first member of a group stands: where it was interned, or else at the next index
+  -- where the first member of a group is: where it was interned, or else at the next index
   abbrev pub start_by : Option ℕ → ℕ
   start_by (Some j) = (get_or spans j no_span).start
   start_by None = next
 
-  -- the index of the type of an id: that of the first member of its group, plus its place
+  -- the index of the type of an id: that of the first member of its group, plus its position in the
+  -- group
   abbrev pub index_by_id : ℕ → ℕ
   index_by_id n = start_by (ids (group_of_id t n)) + (n - first_id t.groups (group_of_id t n))
 
@@ -70,7 +71,7 @@ module _ (t : TypesData) (next : ℕ) (spans : List Span) (ids : ℕ → Option 
   abbrev pub members_by_index : ℕ → List Interned
   members_by_index k = map_group (λ i. name_by_id (id_number i)) (λ i. index_by_id (id_number i)) (members_of t k)
 
-  -- the type of an id is that of a group that stands, or there is room for its group
+  -- the type of an id is that of an interned group, or there is capacity for its group
   pub record HasIndex (n : ℕ) : Type 0 where
     pub within : n < length (types_by_id t.groups)
     pub stands : (j : ℕ) → ids (group_of_id t n) ≡ Some j → StandsInterned t spans (group_of_id t n) j
@@ -91,11 +92,13 @@ module _ (t : TypesData) (b : Builder) where
   abbrev pub interned_index : ℕ → ℕ
   interned_index n = index_by_id t (length b.built.types) b.built.groups b.ids n
 
-  -- each group that the builder holds stands under its id with as many members as in the list of types
+  -- each group that the builder holds is interned under its id with as many members as in the list
+  -- of types
   abbrev pub StandGroups : Type 0
   StandGroups = (k j : ℕ) → b.ids k ≡ Some j → StandsInterned t b.built.groups k j
 
-  -- each id of a group that the builder holds names in the list of types the group that was interned under it
+  -- each id of a group that the builder holds names in the list of types the group that was
+  -- interned under it
   abbrev pub HoldsGroups : Type 0
   HoldsGroups = (k j : ℕ) → b.ids k ≡ Some j → HoldsGroup t b.built.types b.built.groups k j
 

@@ -34,13 +34,13 @@ knows_ids b (Some p) (index.Id i) =
 knows_ids b _ _ = ⊥
 
 -- each is named by its interned index, or, where its group is not held, by the next index plus its
--- place in the group
+-- position in the group
 abbrev pub look_ids : BuilderState → Option TypesAndGroup → UnpackedIndex → Name
 look_ids b None i = interned_name b 0
 look_ids b (Some p) i = look_by_id p.0 (length b.list.types) (builder_view b).built.groups (builder_view b).ids i
 
--- each group that the builder holds stands under its id with all its members; and the one group, if
--- it is not held, has room
+-- each group that the builder holds is interned under its id with all its members; for the one
+-- group, if it is not held, there is capacity
 abbrev pub HaveIndices : BuilderState → Option TypesAndGroup → Type 0
 HaveIndices b None = Unit {0}
 HaveIndices b (Some p) =

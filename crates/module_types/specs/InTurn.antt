@@ -11,11 +11,13 @@ use Rattle.module_types.specs.Conversion.{group_of_id, members_of, interned_memb
 abbrev pub interns_type : TypesData → Builder → ℕ → Builder
 interns_type t b n = interns b (group_of_id t n) (interned_members t b (group_of_id t n))
 
--- the types of some groups are interned in turn, where the first of them is the declared type at a place
+-- the types of some groups are interned in turn, where the first of them is the declared type at a
+-- position
 abbrev pub interns_declared : TypesData → Builder → ℕ → List (Group ℕ ℕ) → Builder
 interns_declared t b start gs = fold (interns_type t) b (take (length (flat_map (λ g. g) gs)) (drop start t.declared))
 
--- a builder holds what the definition takes, and each declared type at the index that the definition gives it
+-- a builder holds what the definition takes, and each declared type at the index that the
+-- definition gives it
 pub record HasTaken (t : TypesData) (b : Builder) (s : Taken) : Type 0 where
   pub built : b.built ≡ s.built
   pub declared : (i : ℕ) → i < length s.declared → interned_index t b (slice_index t.declared i) ≡ get_or s.declared i 0

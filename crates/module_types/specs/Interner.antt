@@ -16,14 +16,14 @@ use Rattle.module_types.specs.Noted.{noted_at}
 use Rattle.module_types.specs.Builder.{Builder, new_builder}
 use Rattle.module_types.specs.Met.{digest_of, met_at, IsLinked}
 
--- where the function types that were met stand
+-- where the recorded function types are
 abbrev pub known : Interner → WasmFuncType → Option TypeIndex
 known i = met_at i.list.types i.met
 
 abbrev pub built : Interner → Built
 built i = built_of i.list (known i)
 
--- each type that was met is found
+-- each recorded type is found
 abbrev pub FindsMet : Interner → Type 0
 FindsMet i = IsLinked i.list.types i.met
 

@@ -1,4 +1,4 @@
--- An interned list as a list of groups, whose references are places in it.
+-- An interned list as a list of groups, whose references are positions in it.
 use Rattle.std.specs.Prelude.{◌≡◌, ◌↔◌, ◌<◌, ◌≤◌, ℕ, ◌-◌, List, length, get_or, take, drop, map}
 use Rattle.wasm_spec.specs.TypeData.{Group, map_group}
 use Rattle.type_data.specs.Names.{NameKind, Named, named, index_of as index_in}
@@ -27,7 +27,7 @@ types_in ts s = take (s.end - s.start) (drop s.start ts)
 abbrev pub home_of : List Interned → Span → Home
 home_of ts s = record { start = s.start; members = unkinded (types_in ts s) }
 
--- the group with a number, and where it stands
+-- the group with an index, and where it is
 abbrev pub span_at : Built → ℕ → Span
 span_at b k = get_or b.groups k no_span
 
@@ -45,8 +45,8 @@ kind_in ts i = kind_of_type (composite_at ts i)
 abbrev pub name_in : List Interned → ℕ → Named ℕ
 name_in ts i = record { kind = kind_in ts i; index = i }
 
--- the groups lie one after another; each reference names a type of its own group or of an earlier
--- one, by its kind
+-- the groups are consecutive; each reference names a type of its own group or of an earlier one, by
+-- its kind
 pub record IsWellNamed (b : Built) : Type 0 where
   pub orderly : IsOrderly b
   pub earlier : NameEarlier 0 (list_groups b)
@@ -63,18 +63,19 @@ abbrev pub TellTypes : Built → Built → EngineMap → EngineMap → Type 0
 TellTypes b b' engine engine' = (i j : ℕ) → i < length b.types → j < length b'.types
     → (engine (index_of i) ≡ engine' (index_of j)) ↔ SameType (list_groups b) (list_groups b') i j
 
--- the same for the types before two places
+-- the same for the types before two positions
 abbrev pub TellTypesBefore : Built → Built → EngineMap → EngineMap → ℕ → ℕ → Type 0
 TellTypesBefore b b' engine engine' start start' = (i j : ℕ) → i < start → j < start'
     → (engine (index_of i) ≡ engine' (index_of j)) ↔ SameType (list_groups b) (list_groups b') i j
 
--- the group with a number, and what it is rewritten to over its own range
+-- the group with an index, and what it is rewritten to over its own range
 pub record IsCompared (b : Built) (engine : EngineMap) (k : ℕ) (old new : WasmRecGroup) : Type 0 where
   pub within : k < length b.groups
   pub stands : group_of old ≡ map_group (named index_at) index_at (types_in b.types (span_at b k))
   pub mapped : group_of new ≡ map_group (named (consed_edge engine (span_at b k).start)) (consed_edge engine (span_at b k).start) (group_of old)
 
--- types of two lists have one engine's index exactly where they stand at one place of one canonical group
+-- types of two lists have one engine's index exactly where they are at one position of one
+-- canonical group
 abbrev pub OneIndex : Built → Built → EngineMap → EngineMap → (ℕ → WasmRecGroup) → (ℕ → WasmRecGroup) → Type 0
 OneIndex b b' engine engine' forms forms' = (k l i j : ℕ) → k < length b.groups → l < length b'.groups
     → (span_at b k).start ≤ i → i < (span_at b k).end → (span_at b' l).start ≤ j → j < (span_at b' l).end

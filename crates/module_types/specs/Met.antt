@@ -1,4 +1,4 @@
--- The mapped types that were met: each stands in a list, and those of one digest are chained, from
+-- The mapped types that were recorded: each is in a list, and those of one digest are chained, from
 -- the newest on.
 use Rattle.std.specs.Prelude.{◌≡◌, ℕ, zero, suc, ◌<◌, nat_eq, cond, List, [], map, reverse, take, length, slice_get, Option, Some, None, IsSome}
 use Rattle.std.specs.Option.{unwrap_or}
@@ -16,12 +16,12 @@ use Rattle.module_types.specs.Passed.{fed_with}
 use Rattle.module_types.specs.declared.met.MetType.{MetType}
 use Rattle.module_types.specs.declared.met.MetTypes.{MetTypes}
 
--- what stands for the type at an index where no function type stands
+-- the default for the type at an index where there is no function type
 abbrev pub no_function : WasmFuncType
 no_function = record { params = []; results = [] }
 
--- a function type that was met: the type, the index at which it stands, and how many were met up to
--- the one before with its digest
+-- a recorded function type: the type, its index in the list, and how many were recorded up to the
+-- previous one with its digest
 pub record Met : Type 0 where
   pub key : WasmFuncType
   pub ty : TypeIndex
@@ -40,7 +40,7 @@ entry_of r = (r.key, r.ty)
 abbrev pub entries_of : List Met → List (WasmFuncType × TypeIndex)
 entries_of rs = map entry_of (reverse rs)
 
--- the index of a type, if it was met
+-- the index of a type, if it was recorded
 abbrev pub known_in : List Met → WasmFuncType → Option TypeIndex
 known_in rs f = lookup (func.ghosts.eq f) (entries_of rs)
 
@@ -53,27 +53,27 @@ met_at types m = known_in (mets types m.types.items)
 unfoldable pub digest_of : Seeded → WasmFuncType → ℕ
 digest_of hasher f = folding.finish (fed_with (fed_with hasher.first f.params) f.results)
 
--- how many were met up to the newest of a digest, or 0
+-- how many were recorded up to the newest of a digest, or 0
 abbrev pub newest_of : MetTypes → ℕ → ℕ
 newest_of m digest = unwrap_or (get nat_eq m.newest digest) 0
 
--- among the first `n` the chain from the place before `count` on has a type wherever it is
+-- among the first `n` the chain from the position before `count` on has a type wherever it is
 abbrev pub Leads : (WasmFuncType → ℕ) → List Met → WasmFuncType → ℕ → ℕ → Type 0
 Leads digest rs f zero n = known_in (take n rs) f ≡ None
 Leads digest rs f (suc m) n =
     (m < n) × (known_in (take n rs) f ≡ known_in (take (suc m) rs) f) × ((r : Met) → slice_get rs m ≡ Some r → digest r.key ≡ digest f)
 
--- the newest of each digest leads to all of it, and each that was met to those before it
+-- the newest of each digest leads to all of it, and each recorded one leads to those before it
 pub record AreChained (digest : WasmFuncType → ℕ) (newest : ℕ → ℕ) (rs : List Met) : Type 0 where
   pub first : (f : WasmFuncType) → Leads digest rs f (newest (digest f)) (length rs)
   pub next : (i : ℕ) (r : Met) → slice_get rs i ≡ Some r → (f : WasmFuncType) → digest f ≡ digest r.key → Leads digest rs f r.before i
 
--- each that was met stands in the list, and is found by its digest
+-- each recorded type is in the list, and is found by its digest
 pub record IsLinked (types : List WasmSubType) (m : MetTypes) : Type 0 where
   pub standing : (i : ℕ) (t : MetType) → slice_get m.types.items i ≡ Some t → IsSome (part_at func_in types t.ty)
   pub chained : AreChained (digest_of m.hasher) (newest_of m) (mets types m.types.items)
 
--- a type was noted at an index
+-- a type was recorded at an index
 pub record IsNoted (types : List WasmSubType) (old new : MetTypes) (f : WasmFuncType) (ty : TypeIndex) : Type 0 where
   pub linked : IsLinked types new
   pub puts : (q : WasmFuncType) → met_at types new q ≡ cond (func.ghosts.eq f q) (Some ty) (met_at types old q)

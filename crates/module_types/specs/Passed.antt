@@ -1,4 +1,4 @@
--- What a trampoline passes for value types, as codes, and what a hasher is fed of them.
+-- What a trampoline passes for value types, as codes, and what is fed to a hasher.
 use Rattle.std.specs.Prelude.{ℕ, ◌+◌, ◌*◌, ◌^◌, nat_lt, List, [], ◌∷◌, map, if◌then◌else◌}
 use Rattle.std.specs.List.{fold, flat_map}
 use Rattle.std.specs.Hash as fed
@@ -27,8 +27,8 @@ code_of val.F64 = 3
 code_of val.V128 = 4
 code_of (val.Ref r) = code_of_top (top_of r.heap_type)
 
--- a word with the codes so far, and more codes: a full word stands by itself, and the last one has
--- what is left
+-- a word with the codes so far, and more codes: each full word is fed alone, and the last one has
+-- the remaining codes
 abbrev pub packed : ℕ → List ℕ → List ℕ
 packed word [] = word ∷ []
 packed word (c ∷ cs) = if nat_lt (word * 16 + c) (2 ^ 60) then packed (word * 16 + c) cs else ((word * 16 + c) ∷ packed 1 cs)

@@ -14,7 +14,8 @@ HasTrampoline b i = IsSome (trampoline_in b i)
 abbrev pub HaveTrampolines : ℕ → Built → Type 0
 HaveTrampolines bound b = (i : ℕ) (f : Called) → i < bound → composite_at b.types i ≡ Func f → HasTrampoline b i
 
--- a function's trampoline is where its mapped type was met, and there stands the mapped type
+-- a function's trampoline is where its mapped type was recorded, and the type there is the mapped
+-- type
 pub record IsTied (b : Built) : Type 0 where
   pub sized : length b.trampolines ≡ length b.types
   pub known : (f : Called) (k : ℕ) → b.known_trampolines (mapped f) ≡ Some k → (k < length b.types) × (composite_at b.types k ≡ Func (mapped f))

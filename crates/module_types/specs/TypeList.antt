@@ -26,11 +26,11 @@ with_types l ts = record l { types = l.types ++ ts; trampolines = l.trampolines 
 abbrev pub with_range : TypeList → Range TypeIndex → TypeList
 with_range l r = record l { groups = l.groups ++ r ∷ [] }
 
--- the type at a place is called by a trampoline
+-- the type at a position is called by a trampoline
 abbrev pub called_by : TypeList → ℕ → TypeIndex → TypeList
 called_by l i k = record l { trampolines = set l.trampolines i (Some k) }
 
--- the trampoline of the type at a place
+-- the trampoline of the type at a position
 abbrev pub trampoline_at : TypeList → ℕ → Option TypeIndex
 trampoline_at l i = option_and_then (λ t. t) (slice_get l.trampolines i)
 
@@ -38,7 +38,7 @@ trampoline_at l i = option_and_then (λ t. t) (slice_get l.trampolines i)
 abbrev pub elements_of : Range TypeIndex → List TypeIndex
 elements_of r = map index_of (range_with_len (number_of r.start) (number_of r.end - number_of r.start))
 
--- each type that has a trampoline, from a place on, with its trampoline
+-- each type that has a trampoline, from a position on, with its trampoline
 abbrev pub called_from : ℕ → List (Option TypeIndex) → List (TypeIndex × TypeIndex)
 called_from i [] = []
 called_from i (None ∷ ts) = called_from (i + 1) ts

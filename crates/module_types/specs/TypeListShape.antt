@@ -1,4 +1,5 @@
--- A list of interned types as data over references: its types have them, and all else stays.
+-- A list of interned types as data over references: its types have the references, and all else is
+-- unchanged.
 use Rattle.std.specs.Prelude.{List, Option}
 use Rattle.std.specs.declared.ops.Range.{Range}
 use Rattle.std.proofs.Common.{ap}

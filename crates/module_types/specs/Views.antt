@@ -26,8 +26,8 @@ use Rattle.wasm_types.specs.ViewsTell.{heap_from}
 abbrev pub TypeIndex : Type 0
 TypeIndex = Index ModuleInternedTypeSpace
 
--- the number of the interned type that an index names; the index of another list is seen as the
--- number that is reserved, and names none
+-- the number of the interned type that an index names; the index of another list is viewed as the
+-- reserved number, and names none
 abbrev pub interned_number : EngineOrModuleTypeIndex → ℕ
 interned_number (index.Module i) = number_of i
 interned_number (index.Engine i) = 4294967295

@@ -23,9 +23,10 @@ use wasm_index::{
 };
 use wasm_types::WasmSubType;
 
-/// Interned groups, each once, with what was asked for beside them.
+/// Interned groups, each once, with the exception types and the startup type made for them.
 ///
-/// A growing call that answers an error poisons the builder: every later growing call answers `Poisoned`.
+/// A growing call that returns an error poisons the builder: every later growing call returns
+/// `Poisoned`.
 #[derive(Drop)]
 pub struct ModuleTypesBuilder {
     pub(crate) alloc: Global,
@@ -39,8 +40,8 @@ pub struct ModuleTypesBuilder {
     pub(crate) poisoned: bool,
 }
 
-/// A contract sees the list, the mapped types that were met with their indices, and what is noted;
-/// `builder_view` is what they say.
+/// A contract sees the list, the recorded mapped types with their indices, and the recorded
+/// exception types and groups; `builder_view` combines them.
 impl Model for ModuleTypesBuilder {
     ghost use Rattle.std.specs.Prelude.{◌≡◌, false};
     ghost use Rattle.module_types.specs.Met.{entries_of, mets};
@@ -91,7 +92,7 @@ impl ModuleTypesBuilder {
         self.validator
     }
 
-    /// Whether an earlier growing call answered an error.
+    /// Whether an earlier growing call returned an error.
     pub fn is_poisoned(&self) -> bool
         ensures told { result ≡ self.now.is_poisoned }
         ensures orderly { self.now.is_poisoned ≡ false → IsOrderly (builder_view self.now).built }
@@ -157,7 +158,7 @@ impl ModuleTypesBuilder {
         Ok(next)
     }
 
-    /// Makes room for more types. What the builder holds is as before.
+    /// Reserves capacity for more types. What the builder holds is as before.
     ///
     /// # Errors
     /// `OutOfMemory`, and from then on `Poisoned`.
@@ -176,8 +177,8 @@ impl ModuleTypesBuilder {
         Ok(())
     }
 
-    /// The list that was built: groups one behind another, whose references name types of the same
-    /// group or of earlier ones, by their kinds.
+    /// The list that was built: consecutive groups, whose references name types of the same group
+    /// or of earlier ones, by their kinds.
     pub fn finish(self) -> ModuleTypes
         requires { self.is_poisoned ≡ false }
         ensures built { result ≡ self.list }

@@ -43,10 +43,10 @@ fn reference_to_interned(ty: &WasmSubType, index: ModuleInternedTypeIndex) -> Wa
 
 /// What gives the interned index of each type of a module.
 pub trait TypeLookUp {
-    /// It may be asked at an index.
+    /// It may be called at an index.
     ghost callable: { Self → Index TypeSpace → Type 0 };
 
-    /// What it may answer there.
+    /// What it may return there.
     ghost gives: { Self → Index TypeSpace → Index ModuleInternedTypeSpace → Type 0 };
 
     /// The interned index of a type.
@@ -55,21 +55,22 @@ pub trait TypeLookUp {
         ensures { gives self.now index result };
 }
 
-/// Converts types that name the types of a module by a look-up, and those of a list of types by their ids.
+/// Converts types that name the types of a module by a look-up, and those of a list of types by
+/// their ids.
 #[derive(Drop)]
 pub struct WasmparserTypeConverter<'a, F: TypeLookUp> {
     types: &'a ModuleTypesBuilder,
     count: u32,
     lookup_type_idx: F,
     rec_group: Option<(&'a Types, RecGroupId)>,
-    // The look-up has one answer for each of the first types, and it is interned.
+    // The look-up has one result for each of the first types, and it is interned.
     ghost answers: { AnswersBelow (λ i r. F.gives lookup_type_idx i r) (length types.now.list.types) count } by { AnswersBelow-prop (λ i r. F.gives lookup_type_idx i r) (length types.now.list.types) count },
     // Each id that it knows has an index.
     ghost have_indices: { HaveIndices types.now (option_map (λ p. (p.0.now, p.1.0)) rec_group) } by { HaveIndices-prop types.now (option_map (λ p. (p.0.now, p.1.0)) rec_group) },
 }
 
 impl<'a, F: TypeLookUp> WasmparserTypeConverter<'a, F> {
-    /// A converter of types that name the first `count` types of a module. The look-up answers the
+    /// A converter of types that name the first `count` types of a module. The look-up gives the
     /// interned index of each.
     pub fn new(types: &'a ModuleTypesBuilder, count: u32, lookup_type_idx: F) -> Self
         requires { AnswersBelow (λ i r. F.gives lookup_type_idx i r) (length types.now.list.types) count }
@@ -86,9 +87,9 @@ impl<'a, F: TypeLookUp> WasmparserTypeConverter<'a, F> {
         }
     }
 
-    /// Looks up ids of a list of types besides: those of groups that the builder holds, at their
-    /// interned indices, and those of one group, which is interned next unless it is held, at the
-    /// builder's next index plus their places in it. It knows no other id.
+    /// Also looks up ids of a list of types. Groups that the builder holds are at their interned
+    /// indices. One group, which is interned next unless it is held, is at the builder's next index
+    /// plus the positions in it. It knows no other id.
     pub fn with_rec_group(&mut self, types: &'a Types, rec_group: RecGroupId) -> &Self
         requires holds { StandGroups types.now (builder_view self.old.types.now) }
         requires room { (builder_view self.old.types.now).ids rec_group.0 ≡ None → length self.old.types.now.list.types + length (members_of types.now rec_group.0) < u32.MAX }

@@ -44,7 +44,7 @@ pub(crate) struct GroupConverter<'a> {
     /// The group that was interned under each id of a group.
     pub(crate) ids: &'a NotedIndices<ModuleInternedRecGroupSpace>,
     pub(crate) types: &'a Types,
-    /// Where the group starts that is interned next.
+    /// The index at which the group starts that is interned next.
     pub(crate) next: ModuleInternedTypeIndex,
 }
 

@@ -1,4 +1,4 @@
-//! Groups one after another, with the trampolines of their functions.
+//! Consecutive groups, with the trampolines of their functions.
 
 ghost use Rattle.std.specs.Prelude.{◌≡◌, ◌+◌, ◌-◌, ◌<◌, ◌≤◌, [], ◌∷◌, ◌++◌, length, map, drop, Some, IfOk, OnOk, IsTrue, true};
 ghost use Rattle.std.specs.Option.{option_map};
@@ -29,7 +29,7 @@ use wasm_types::{
     WasmFuncType, WasmStorageType, WasmSubType, WasmValType,
 };
 
-/// A list of interned types, and which of them are mapped types that were met.
+/// A list of interned types, and which of them are recorded mapped types.
 #[derive(Drop)]
 pub(crate) struct Interner {
     pub(crate) list: ModuleTypes,
@@ -99,7 +99,7 @@ impl Interner {
         }
     }
 
-    // Appends a type, in a group of its own.
+    // Appends a type, in a group with no other member.
     fn push_alone(
         &mut self,
         ty: WasmSubType,
@@ -118,7 +118,8 @@ impl Interner {
         Ok(())
     }
 
-    // The type by which functions of a type are called: where it stands, or else the type with its digest.
+    // The type by which functions of a type are called: its index, or else the type with its
+    // digest.
     fn find_trampoline(&self, alloc: Global, func: &WasmFuncType) -> Result<Trampoline, OutOfMemory>
         requires found { FindsMet self.now }
         ensures { IfOk result (IsTrampoline (known self.now) self.now.met.hasher func.now) }
@@ -133,7 +134,7 @@ impl Interner {
         }
     }
 
-    // Appends the trampoline of the type at an index, which comes next.
+    // Appends the trampoline of the type at an index, at the next index.
     fn push_trampoline(
         &mut self,
         ty: ModuleInternedTypeIndex,
@@ -194,8 +195,8 @@ impl Interner {
         Ok(())
     }
 
-    /// Appends a group of a list of types, and then the trampolines that are missing. Where it is
-    /// the first, digests of mapped types begin from the list's seed.
+    /// Appends a group of a list of types, and then the trampolines that are missing. For the first
+    /// group, digests of mapped types begin from the list's seed.
     pub(crate) fn push_group(
         &mut self,
         alloc: Global,
@@ -212,12 +213,12 @@ impl Interner {
     {
         let next = self.list.next_ty();
         let members = types.members(id);
-        // With room for a trampoline, which functions of one group mostly share: without it the
-        // list would double for one type.
+        // Also reserves capacity for one trampoline, which functions of one group mostly share.
+        // Without it the list would double for one type.
         self.list.reserve(members.len() + 1)?;
-        // Each is converted straight into the list: a list of them besides would be as long, and
-        // only be moved. So references of the group count from where it starts, and not from the
-        // list's next index.
+        // Each type is converted straight into the list. A separate list of them would have the
+        // same length, and only be moved. So references of the group count from where it starts,
+        // and not from the list's next index.
         for member in members {
             let list = &self.list;
             let converter = GroupConverter {

@@ -23,8 +23,8 @@ ghost use Rattle.module_types.specs.Runs.{with_groups, runs, firsts, AllFilled};
 
 use wasm_types::WasmRecGroup;
 
-/// The groups of a builder lie behind one another, from the first type to the last: those of the
-/// empty one do, and each step keeps it.
+/// The groups of a builder are consecutive, from the first type to the last: those of the empty one
+/// are, and each step keeps it.
 pub fn ranges_law()
     ensures none { IsOrderly empty }
     ensures group { (b : Built) (ts : List Interned) → 0 < length ts → IsOrderly b → IsOrderly (with_group b ts) }
@@ -32,7 +32,8 @@ pub fn ranges_law()
     ensures startup { (b : Built) → IsOrderly b → IsOrderly (with_startup b true) }
 {}
 
-/// Mapping a function type twice is mapping it once, and the test of mapped types tells them.
+/// Mapping a function type twice is mapping it once, and the test of mapped types distinguishes
+/// them.
 pub fn trampolines_law()
     ensures once { (f : Called) → mapped (mapped f) ≡ mapped f }
     ensures told { (f g : Called) → (same_mapped (mapped f) g ≡ true) ↔ (mapped f ≡ g) }
@@ -50,9 +51,9 @@ pub fn one_trampoline_law()
         → trampoline_in b i ≡ Some k → trampoline_in b j ≡ Some l → (k ≡ l) ↔ (mapped f ≡ mapped g) }
 {}
 
-/// Each function type that is taken of a module has a trampoline, also in its interned list; in a
-/// builder each function member of a group that was interned has one, and keeps it. So
-/// `trampoline_type` may be called with it.
+/// Each function type that is taken of a module has a trampoline, also in its interned list. In a
+/// builder each function member of an interned group has one, and keeps it. So `trampoline_type`
+/// may be called with it.
 pub fn has_trampoline_law()
     ensures taken { (ms : List (Group ℕ ℕ)) → HaveTrampolines (length (taken ms).built.types) (taken ms).built }
     ensures interned { (ms : List (Group ℕ ℕ)) (tags : List ℕ) (startup : Bool) → HaveTrampolines (length (taken ms).built.types) (interned ms tags startup) }
@@ -64,8 +65,9 @@ pub fn has_trampoline_law()
     ensures shown { (b : BuilderState) (i : ℕ) → HasTrampoline (builder_view b).built i → IsSome (trampoline_at b.list i) }
 {}
 
-/// After one more group each id that a builder holds names the group that was interned under it, if
-/// it did so before and the new group has members of the same kinds.
+/// After one more group is appended, each id that a builder holds names the group that was interned
+/// under it. This needs that it did so before, and that the new group has members of the same
+/// kinds.
 pub fn holds_law()
     ensures none { (t : TypesData) (validator : ℕ) → HoldsGroups t (new_builder validator) }
     ensures more { (t : TypesData) (b : Builder) (k : ℕ) (ts : List Interned)
@@ -85,14 +87,15 @@ pub fn built_groups_law()
         → (tss ≡ uss) ↔ (((with_groups empty tss).types ≡ (with_groups empty uss).types) × ((with_groups empty tss).groups ≡ (with_groups empty uss).groups)) }
 {}
 
-/// In a module that keeps the rules each reference names a type of its own group or of an earlier one.
+/// In a module that keeps the rules each reference names a type of its own group or of an earlier
+/// one.
 pub fn earlier_law()
     ensures { (m : Module) → Keeps m → NameEarlier 0 (placed_groups m) }
 {}
 
-/// A builder that interned the declared groups of a module in turn holds what the definition takes,
-/// and each declared type at the index that the definition gives it; so two declared types have one
-/// interned index exactly where they are equal.
+/// A builder that interned the declared groups of a module in turn holds what the definition takes.
+/// It holds each declared type at the index that the definition gives it. So two declared types
+/// have one interned index exactly where they are equal.
 pub fn declared_groups_law()
     ensures taken { (m : Module) (t : TypesData) → AreNumbered m t → NameEarlier 0 (placed_groups m) → (validator : ℕ)
         → HasTaken t (interns_declared t (new_builder validator) 0 (placed_groups m)) (taken (placed_groups m)) }
@@ -122,8 +125,8 @@ pub fn same_type_law()
         → SameType ms (list_groups (interned ms tags startup)) i (get_or (taken ms).declared i 0) }
 {}
 
-/// Before exception types and the startup type the interned lists of two modules are equal exactly
-/// where the groups that are taken of the two are equally many and equal in turn.
+/// Before exception types and the startup type are appended, the interned lists of two modules are
+/// equal exactly where the groups taken of the two are equally many and equal in turn.
 pub fn equal_lists_law()
     ensures { (ms ns : List (Group ℕ ℕ)) → NameEarlier 0 ms → NameEarlier 0 ns
         → SameLists (taken ms).built (taken ns).built ↔ TakeEqual ms ns }
@@ -143,7 +146,8 @@ pub fn compared_groups_law()
         → (x' ≡ y') ↔ SameGroup (λ i j. SameType (list_groups b) (list_groups b') i j) (group_at b k) (group_at b' l) }
 {}
 
-/// For canonical groups of two groups it is enough that the engine's indices tell the types before the two.
+/// For canonical groups of two groups it is enough that the engine's indices distinguish the types
+/// before the two.
 pub fn compared_before_law()
     ensures { (b b' : Built) → IsWellNamed b → IsWellNamed b' → (engine engine' : EngineMap) (k l : ℕ)
         → TellTypesBefore b b' engine engine' (span_at b k).start (span_at b' l).start
@@ -151,8 +155,8 @@ pub fn compared_before_law()
         → (x' ≡ y') ↔ SameGroup (λ i j. SameType (list_groups b) (list_groups b') i j) (group_at b k) (group_at b' l) }
 {}
 
-/// Where types of two lists have one engine's index exactly if they stand at one place of one
-/// canonical group, the indices tell types.
+/// Where types of two lists have one engine's index exactly if they are at one position of one
+/// canonical group, the indices distinguish all types.
 pub fn told_by_forms_law()
     ensures { (b b' : Built) → IsWellNamed b → IsWellNamed b' → (engine engine' : EngineMap) (olds forms olds' forms' : ℕ → WasmRecGroup)
         → AreCompared b engine olds forms → AreCompared b' engine' olds' forms' → OneIndex b b' engine engine' forms forms'

@@ -13,7 +13,7 @@
 //! let ty = list.get(index);
 //! ```
 //!
-//! To intern a group again changes nothing. Trampolines are found by seeded hashes.
+//! Interning a group again changes nothing. Trampolines are found by seeded hashes.
 //!
 //! Read on: `builder`, `interning`, `list`; `type_spec/specs/Interned.antt` has the definition.
 #![tactic(auto)]

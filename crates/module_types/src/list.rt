@@ -24,7 +24,8 @@ pub type WasmTypesIter<'a> = PrimaryIter<'a, ModuleInternedTypeIndex, WasmSubTyp
 /// Each interned type in index order, for writing.
 pub type TypesMut<'a> = ValuesMut<'a, WasmSubType>;
 
-/// The interned types of a module, their groups, and the trampoline of each function type that has one.
+/// The interned types of a module, their groups, and the trampoline of each function type that has
+/// one.
 #[derive(Drop)]
 pub struct ModuleTypes {
     pub(crate) wasm_types: PrimaryMap<ModuleInternedTypeIndex, WasmSubType>,
@@ -41,7 +42,7 @@ impl Model for ModuleTypes {
 
     ghost view = { λ m. record { types = m.wasm_types; groups = m.rec_groups; trampolines = m.trampolines.items } };
 
-    // Each type has its place in the list of trampolines, and an index.
+    // Each type has an entry in the list of trampolines, and an index.
     ghost invariant = { λ m. (length m.trampolines.items ≡ length m.wasm_types) × (length m.wasm_types < 4294967295) };
 }
 
@@ -92,7 +93,7 @@ impl ModuleTypes {
         }
     }
 
-    // The numbers of the first index of a group, and of the index after its last.
+    // The first index of a group, and the index after its last, as numbers.
     pub(crate) fn ends_of(&self, rec_group: ModuleInternedRecGroupIndex) -> (u32, u32)
         requires { number_of rec_group < length self.now.groups }
         ensures { slice_get (map span_of self.now.groups) (number_of rec_group) ≡ Some (record { start = result.0; end = result.1 }) }
@@ -186,7 +187,7 @@ impl ModuleTypes {
         Ok(())
     }
 
-    // The same, without an answer.
+    // The same, without a result.
     pub(crate) fn set_trampoline(
         &mut self,
         for_ty: ModuleInternedTypeIndex,
@@ -214,7 +215,7 @@ impl ModuleTypes {
         self.rec_groups.push(range)
     }
 
-    /// Makes room for more types.
+    /// Reserves capacity for more types.
     ///
     /// # Errors
     /// `OutOfMemory` where the lists find no memory.

@@ -1,4 +1,4 @@
-//! Whether a function type is what a trampoline passes for another, compared without a list of it.
+//! Whether a function type is what a trampoline passes for another, compared without building it.
 
 ghost use Rattle.std.specs.Prelude.{◌≡◌, map};
 ghost use Rattle.std.specs.Cmp.Lexicographic.{pointwise};
@@ -19,14 +19,14 @@ fn passed(ty: &WasmValType) -> WasmValType
     }
 }
 
-// Whether a trampoline passes another value type for one.
+// Whether a trampoline passes another value type for a value type.
 fn is_passed(ty: &WasmValType, other: &WasmValType) -> bool
     ensures { result ≡ ⟦<WasmValType as PartialEq>⟧.eq (trampoline_val ty.now) other.now }
 {
     passed(ty) == *other
 }
 
-// Whether a trampoline passes each of the others for the types.
+// Whether a trampoline passes each of the other value types for the types.
 fn are_passed(types: &[WasmValType], others: &[WasmValType]) -> bool
     ensures { result ≡ pointwise ⟦<WasmValType as PartialEq>⟧.eq (map trampoline_val types.now) others.now }
 {

@@ -1,4 +1,4 @@
-//! The mapped types that were met, found by their digests and compared where they stand.
+//! The mapped types that were recorded, found by their digests and compared in the list of types.
 
 ghost use Rattle.std.specs.Prelude.{◌≡◌, [], List, Some, OnOk};
 ghost use Rattle.wasm_types.specs.declared.sub.WasmSubType.{WasmSubType};
@@ -18,26 +18,26 @@ use std::hash::{BuildHasher, Hasher};
 use wasm_index::ModuleInternedTypeIndex;
 use wasm_types::WasmFuncType;
 
-/// A function type that was met, by the index at which it stands in a list of types.
+/// A recorded function type, by its index in a list of types.
 #[derive(Clone, Copy)]
 pub(crate) struct MetType {
     pub(crate) ty: ModuleInternedTypeIndex,
-    /// How many were met up to the one before with the same digest, or 0.
+    /// How many were recorded up to the previous one with the same digest, or 0.
     pub(crate) before: u32,
 }
 
-/// The function types that were met: each by the index at which it stands in a list of types, so
-/// that none is kept twice. Those of one digest are chained, from the newest on.
+/// The recorded function types: each by its index in a list of types, so that none is kept twice.
+/// Those of one digest are chained, from the newest on.
 #[derive(Drop)]
 pub(crate) struct MetTypes {
     pub(crate) hasher: Seeded,
-    /// How many were met up to the newest of each digest.
+    /// How many were recorded up to the newest of each digest.
     pub(crate) newest: HashMap<u64, u32, Seeded>,
     pub(crate) types: Vec<MetType>,
 }
 
 impl MetTypes {
-    /// None was met. Digests begin from the seed.
+    /// No type is recorded. Digests begin from the seed.
     pub(crate) fn new(alloc: Global, seed: u64) -> MetTypes
         ensures none { result.types.items ≡ [] }
         ensures linked { (types : List WasmSubType) → IsLinked types result }
@@ -60,7 +60,7 @@ impl MetTypes {
         hasher.finish()
     }
 
-    /// Where the mapped type of a function type of this digest stands, if it was met.
+    /// The index of the mapped type of a function type of this digest, if it was recorded.
     pub(crate) fn find(
         &self,
         list: &ModuleTypes,
@@ -82,7 +82,7 @@ impl MetTypes {
         None
     }
 
-    /// Notes a function type of this digest, which was not met and stands at an index.
+    /// Records a function type of this digest, which was not recorded before and is at an index.
     pub(crate) fn note(
         &mut self,
         digest: u64,
@@ -91,7 +91,7 @@ impl MetTypes {
         ensures { OnOk result ((types : List WasmSubType) (f : WasmFuncType) → IsLinked types self.old → part_at func_in types ty ≡ Some f
             → digest ≡ digest_of self.old.hasher f → IsNoted types self.old self.new f ty) }
     {
-        // A list has fewer types, and none is met twice, so this never happens.
+        // A list has fewer types, and none is recorded twice, so this never happens.
         let count = self.types.len() + 1;
         if count > u32::MAX as usize {
             return Err(OutOfMemory);

@@ -1,4 +1,4 @@
-//! Indices that are noted under numbers.
+//! Indices that are recorded under keys.
 
 ghost use Rattle.std.specs.Prelude.{◌≡◌, ◌<◌, [], OnOk};
 ghost use Rattle.std.specs.Option.{option_map};
@@ -11,17 +11,17 @@ use std::alloc::Global;
 use std::marker::{Model, PhantomData};
 use wasm_index::Index;
 
-/// The index that was noted under each number, if one was. Its memory grows with the greatest such
-/// number, so the numbers are to be those of a list that stands in memory. (A secondary map is for
-/// keys below `u32::MAX`; here each number may be a key.)
+/// The index that was recorded under each key, if any. Its memory grows with the greatest such key,
+/// so the keys must be indices of a list that is in memory. (A secondary map is for keys below
+/// `u32::MAX`; here each number may be a key.)
 #[derive(Drop)]
 pub(crate) struct NotedIndices<Space> {
-    // Numbers of indices, and `u32::MAX` where none was noted.
+    // Indices as numbers, and `u32::MAX` where none was recorded.
     items: Vec<u32>,
     space: PhantomData<Space>,
 }
 
-/// A contract sees the list of the numbers of the indices, each at its place.
+/// A contract sees the list of the indices as numbers, each at its key.
 impl<Space> Model for NotedIndices<Space> {
     ghost use Rattle.std.specs.Prelude.{ℕ, List, Option};
     ghost use Rattle.module_types.specs.Noted.{notes_of};
@@ -32,7 +32,7 @@ impl<Space> Model for NotedIndices<Space> {
 }
 
 impl<Space> NotedIndices<Space> {
-    /// Nothing is noted yet. It needs no memory.
+    /// Nothing is recorded yet. It needs no memory.
     pub(crate) fn new(alloc: Global) -> Self
         ensures { result ≡ [] }
     {
@@ -42,7 +42,7 @@ impl<Space> NotedIndices<Space> {
         }
     }
 
-    /// The index that was noted under a number.
+    /// The index that was recorded under a key.
     pub(crate) fn get(&self, number: u32) -> Option<Index<Space>>
         ensures { option_map number_of result ≡ noted_at self.now number }
     {
@@ -54,7 +54,7 @@ impl<Space> NotedIndices<Space> {
         }
     }
 
-    /// Notes an index under a number.
+    /// Records an index under a key.
     pub(crate) fn note(&mut self, number: u32, index: Index<Space>) -> Result<(), OutOfMemory>
         requires { number_of index < u32.MAX }
         ensures { OnOk result (noted_at self.new ≡ noted (noted_at self.old) number (number_of index)) }

@@ -29,8 +29,8 @@ fn code(ty: &WasmValType) -> u64
     }
 }
 
-// The word with one more code, of four bits. One with no room for another is fed to the hasher, and
-// a new one begins.
+// The word with one more code, of four bits. A full word is fed to the hasher, and a new one
+// begins.
 fn feed_code(hasher: &mut FoldHasher, word: u64, code: u64) -> u64
     requires word { word < 2 ^ 60 }
     requires code { code < 16 }
@@ -45,8 +45,8 @@ fn feed_code(hasher: &mut FoldHasher, word: u64, code: u64) -> u64
     1
 }
 
-/// Feeds a hasher what a trampoline passes for each of the types: fifteen codes to a word, behind a
-/// one that says how many there are.
+/// Feeds a hasher what a trampoline passes for each of the types: fifteen codes to a word, after a
+/// leading 1 that marks how many codes there are.
 pub(crate) fn feed(hasher: &mut FoldHasher, types: &[WasmValType])
     ensures { hasher.new ≡ fed_with hasher.old types.now }
 {

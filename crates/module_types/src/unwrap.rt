@@ -1,4 +1,4 @@
-//! What stands in the types of a builder.
+//! The composite types in a builder.
 
 ghost use Rattle.std.specs.Prelude.{◌≡◌, Some, IsSome};
 ghost use Rattle.wasm_types.specs.Views.{array_in, func_in, struct_in, exn_in};

@@ -13,7 +13,7 @@ function = record {
   composite_type = record { inner = inner.Func (record { params = []; results = [] }); shared = false };
 }
 
--- one more type, in a group of its own
+-- one more type, in a group with no other member
 abbrev pub alone : TypeList → WasmSubType → TypeList
 alone l t = with_range (with_type l t None) (record { start = index_of (length l.types); end = index_of (length l.types + 1) })
 
@@ -21,6 +21,6 @@ alone l t = with_range (with_type l t None) (record { start = index_of (length l
 abbrev pub startup : TypeList
 startup = alone no_types function
 
--- the same twice
+-- the same type twice
 abbrev pub twice : TypeList
 twice = alone startup function

@@ -24,7 +24,7 @@ fn function(alloc: Global) -> Result<WasmSubType, OutOfMemory>
     })
 }
 
-// Appends a type, in a group of its own.
+// Appends a type, in a group with no other member.
 fn push_alone(list: &mut ModuleTypes, ty: WasmSubType) -> Result<(), OutOfMemory>
     requires types { length list.old.types < 10 }
     requires groups { length list.old.groups < 10 }

@@ -15,14 +15,14 @@ use translate::{Collector, Plan, TranslateError, translate_module};
 use wasm_index::StaticModuleIndex;
 use wasm_types::Tunables;
 
-/// A function type without parameters and results twice, each in a group of its own, and one that
-/// is not final. The first two are equal, so the list has two types.
+/// A function type without parameters and results twice, each in its own group, and one that is not
+/// final. The first two are equal, so the list has two types.
 pub(crate) const FINAL_OR_NOT: [u8; 22] = [
     0x00, 0x61, 0x73, 0x6D, 0x01, 0x00, 0x00, 0x00, // the header
     0x01, 0x0C, 0x03, 0x60, 0x00, 0x00, 0x60, 0x00, 0x00, 0x50, 0x00, 0x60, 0x00, 0x00, // types
 ];
 
-/// A function of itself. The list has it, and the type by which it is called.
+/// A function type that refers to itself. The list has it, and the type by which it is called.
 pub(crate) const OF_ITSELF: [u8; 16] = [
     0x00, 0x61, 0x73, 0x6D, 0x01, 0x00, 0x00, 0x00, // the header
     0x01, 0x06, 0x01, 0x60, 0x01, 0x64, 0x00, 0x00, // types
@@ -47,7 +47,7 @@ pub(crate) const GROUP_AND_EXCEPTION: [u8; 32] = [
     0x0D, 0x03, 0x01, 0x00, 0x02, // tags
 ];
 
-/// The same behind a function without parameters and results, so that each type has another number.
+/// The same after a function without parameters and results, so that each type has another index.
 pub(crate) const SAME_BEHIND_ANOTHER: [u8; 35] = [
     0x00, 0x61, 0x73, 0x6D, 0x01, 0x00, 0x00, 0x00, // the header
     0x01, 0x14, 0x03, 0x60, 0x00, 0x00, 0x4E, 0x02, 0x60, 0x01, 0x64, 0x02, 0x00, 0x60, 0x01, 0x64,
@@ -83,7 +83,7 @@ pub(crate) fn plan_of<'d>(alloc: Global, bytes: &'d [u8]) -> Result<Plan<'d>, Tr
     )
 }
 
-// The translation of a module. Its types stand in the builder.
+// The translation of a module. The builder holds its types.
 fn translation_of<'d>(
     alloc: Global,
     validator: &Validator,

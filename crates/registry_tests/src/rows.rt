@@ -17,7 +17,8 @@ use std::test::Fail;
 use type_registry::{ModuleKey, RegistryError, TypeRegistry};
 use wasm_index::{ModuleInternedTypeIndex, VMSharedTypeIndex};
 
-// What a registration gives: the number of the key, the index of each type, and how many types are live then.
+// What a registration gives: the number of the key, the index of each type, and how many types are
+// live then.
 #[derive(Drop)]
 struct Wanted<'a> {
     number: u64,
@@ -35,7 +36,7 @@ fn gives<'a>(number: u64, indices: &'a [u32], live: u32) -> Wanted<'a>
     }
 }
 
-// Registers a list, which gives what is wanted.
+// Registers a list, which gives what is expected.
 fn registers(
     rt: &impl Abort,
     registry: &mut TypeRegistry,
@@ -60,7 +61,7 @@ fn registers(
     Ok(key)
 }
 
-// A module that is held no longer is not known, and cannot be let go.
+// A module that is no longer held is not known, and cannot be released.
 fn is_not_held(rt: &impl Abort, registry: &mut TypeRegistry, key: ModuleKey) -> Result<(), Fail> {
     assert!(rt; registry.type_count(key) == None);
     assert!(rt; registry.index_of(key, ModuleInternedTypeIndex::from_u32(0)) == None);
@@ -68,7 +69,7 @@ fn is_not_held(rt: &impl Abort, registry: &mut TypeRegistry, key: ModuleKey) -> 
     Ok(())
 }
 
-// Lets a module go, and so many are live then.
+// Releases a module, and so many types are live then.
 fn releases(
     rt: &impl Abort,
     registry: &mut TypeRegistry,

@@ -1,4 +1,4 @@
--- What a balanced registry tells, and that it is balanced once a module is released.
+-- What follows for a balanced registry, and that it is balanced once a module is released.
 use Rattle.std.proofs.Common.{if◌then◌else◌, ◌≡◌, ◌∙◌, ◌<◌, ◌≤◌, ℕ, Bool, true, false, nat_eq, List, [], ◌∷◌, get_or, take, drop, slice_get, Contains, Option, Some, None, option_and_then, refl, sym, ap, arith, eq-eqb}
 use Rattle.std.specs.Prelude.{IsSome}
 use Rattle.std.specs.Cmp.{nat_eq_equiv}
@@ -46,7 +46,7 @@ record IsOf (o : Option Group) (i : ℕ) : Type 0 where
 of-any : (o : Option Group) (i : ℕ) → list_any (nat_eq i) (indices_in o) ≡ true → IsOf o i
 of-any o i has = grind arith
 
--- a held module that has an index at a place
+-- a held module that has an index at a position
 record IsAmong (r : Registry) (key place i : ℕ) : Type 0 where
   pub listed : Module
   pub held : r.held key ≡ Some listed
@@ -64,7 +64,8 @@ any-drop : (ns : List ℕ) (n i : ℕ) → list_any (nat_eq i) (drop n ns) ≡ t
 any-drop ns n i has = rw (take-append-drop n ns) at (any-right (take n ns) (drop n ns) i has)
 
 module _ (r : Registry) (b : IsBalanced r) where
-  -- a kept group has an index of a held module, and its first index is among those of the module's groups
+  -- a kept group has an index of a held module, and its first index is among those of the module's
+  -- groups
   record IsListed (m : Module) (i : ℕ) : Type 0 where
     pub first : ℕ
     pub group : Group
@@ -104,7 +105,7 @@ module _ (r : Registry) (b : IsBalanced r) where
   pub kept-listed : (key : ℕ) (m : Module) (first : ℕ) → r.held key ≡ Some m → 0 < times first m.groups → IsThere (kept_at r first)
   kept-listed key m first is lt = there-of (kept_at r first) (omega (arith, b.counted first, below-one r.held key first r.registrations m is (given-key key m is), lt))
 
-  -- the first index of a group that stands is among those of the module's groups
+  -- the first index of a kept group is among those of the module's groups
   pub first-listed : (key : ℕ) (m : Module) (l : TypeList) (s : Span) → r.held key ≡ Some m → (g : GroupStands r m.indices l s)
       → 0 < times (get_or m.indices s.start 0) m.groups
   first-listed key m l s is g =
@@ -127,7 +128,7 @@ module _ (r : Registry) (b : IsBalanced r) (key : ℕ) (m : Module) (is : r.held
   counted-now : (first : ℕ) → count_in (kept_at now first) ≡ times_below now.held first r.registrations
   counted-now first = grind (arith, left-less, below-without, given-key)
 
-  -- a group that is kept as it was, but for its count
+  -- a group that is kept unchanged, except for its count
   record IsStill (first : ℕ) : Type 0 where
     pub group : Group
     pub kept : kept_at now first ≡ Some group

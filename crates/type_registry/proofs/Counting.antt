@@ -43,7 +43,7 @@ pub counted_push : (gs : List (ℕ × Group)) (fs : List ℕ) (f : ℕ)
 counted_push gs [] f = refl
 counted_push gs (x ∷ fs) f = counted_push (count_group gs x (lookup (nat_eq x) gs)) fs f
 
--- a new group is counted for what it is
+-- a new group adds its count
 pub counted-keep : (gs : List (ℕ × Group)) (f : ℕ) (g : Group) → counted (keep_group gs f g) ≡ counted gs + g.count
 counted-keep [] f g = omega arith
 counted-keep (e ∷ gs) f g = let rest = counted-keep gs f g in grind (arith, nat_tests)

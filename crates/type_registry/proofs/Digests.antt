@@ -1,4 +1,4 @@
--- What a digest of types takes.
+-- The data that a digest of types reads.
 use Rattle.std.proofs.Common.{◌≡◌, ◌++◌, ℕ, List, [], ◌∷◌, ◌+◌, refl, ap}
 use Rattle.std.specs.List.{flat_map}
 use Rattle.entity_map.specs.Keyed.{keyed, keyed_from}

@@ -1,4 +1,4 @@
--- What is kept stays so where a group is kept no longer, or is counted otherwise.
+-- What is kept remains so where a group is removed, or its count changes.
 use Rattle.std.proofs.Common.{if◌then◌else◌, ◌≡◌, ◌∙◌, ◌↔◌, ℕ, ◌+◌, Bool, true, false, nat_eq, List, length, map, set, slice_get, Option, Some, None, refl, sym, ap, arith, length-set}
 use Rattle.std.specs.Prelude.{cond}
 use Rattle.std.specs.List.{list_any}
@@ -54,7 +54,7 @@ module _ {Key : Type 0} {content : Key → List WasmSubType} {live : ℕ} {known
   pub kept-without : AreKept content live' known' gs' os' free'
   kept-without = grind (arith, length-set, emptied-length, length-removed, stays, owned, owns, known-still, knows-still)
 
--- ---- a group is counted otherwise
+-- ---- the count of a group changes
 
 module _ {Key : Type 0} {content : Key → List WasmSubType} {live : ℕ} {known : Key → Option ℕ} {gs : List (Option Group)} {os : List (Option Owner)}
     {free : List ℕ} {g : Group} (k : AreKept content live known gs os free) (f count : ℕ) (at : group_in gs f ≡ Some g) where
@@ -64,7 +64,7 @@ module _ {Key : Type 0} {content : Key → List WasmSubType} {live : ℕ} {known
   abbrev counted : List (Option Group)
   counted = set gs f (Some g')
 
-  -- a group of one list that stands in another, with another count
+  -- a group of one list that is in another, with another count
   record Alike (from : List (Option Group)) (n : ℕ) (h : Group) : Type 0 where
     pub group : Group
     pub kept : group_in from n ≡ Some group

@@ -1,4 +1,4 @@
--- Bytes that take the place of zeros one by one.
+-- Bytes that replace zeros one by one.
 use Rattle.std.proofs.Common.{◌≡◌, ◌∙◌, ◌<◌, ℕ, zero, suc, ◌+◌, ◌-◌, List, [], ◌∷◌, ◌++◌, length, get_or, set, take, replicate, refl, ap, arith}
 
 filled : (bs : List ℕ) (k m : ℕ) → k < length bs → set (take k bs ++ replicate (suc m) 0) k (get_or bs k 0) ≡ take (suc k) bs ++ replicate m 0

@@ -25,7 +25,7 @@ lookup-at (None ∷ gs) k (suc m) n e = lookup-at gs (k + 1) m n (omega (arith, 
 lookup-at (Some g ∷ gs) k zero n e = grind arith
 lookup-at (Some g ∷ gs) k (suc m) n e = grind (arith, (lookup-at gs (k + 1) m n (omega (arith, e))))
 
--- another group at a place, or none
+-- another group at a position, or none
 pub set-at : (gs : List (Option Group)) (k m n : ℕ) (g h : Group) → n ≡ k + m → group_in gs m ≡ Some g
     → kept_from k (set gs m (Some h)) ≡ set_value (nat_eq n) (kept_from k gs) h
 set-at [] k m n g h e at = refl
@@ -42,7 +42,7 @@ remove-at (None ∷ gs) k (suc m) n g e at = remove-at gs (k + 1) m n g (omega (
 remove-at (Some x ∷ gs) k zero n g e at = grind arith
 remove-at (Some x ∷ gs) k (suc m) n g e at = grind (arith, nat_eq, ne_eqb, (remove-at gs (k + 1) m n g (omega (arith, e)) at))
 
--- ---- the group at a place, once another is put there
+-- ---- the group at a position, once another is put there
 
 pub set-other : {A : Type 0} (xs : List (Option A)) (f n : ℕ) (o : Option A) → (n ≡ f → ⊥)
     → option_and_then (λ (x : Option A). x) (slice_get (set xs f o) n) ≡ option_and_then (λ (x : Option A). x) (slice_get xs n)

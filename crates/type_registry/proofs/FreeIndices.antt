@@ -33,17 +33,17 @@ step-taken taken i is = let same : free_below taken i + 0 ≡ free_below taken i
 less : (taken : List ℕ) (i j : ℕ) → i < j → has taken i ≡ false → free_below taken i < free_below taken j
 less taken i j lt none = omega (arith, step-free taken i none, more taken (suc i) j (j - suc i) (omega (arith, lt)))
 
--- a free number is told by how many are free before it
+-- a free number is determined by how many are free before it
 pub same-rank : (taken : List ℕ) (i j : ℕ) → has taken i ≡ false → has taken j ≡ false → free_below taken i ≡ free_below taken j → i ≡ j
 same-rank taken i j none none' same = grind (arith, less)
 
--- where all from one to another are taken, none is free between them
+-- where all from one to another are used, none is free between them
 all-taken : (taken : List ℕ) (i j d : ℕ) → j ≡ i + d → ((m : ℕ) → i ≤ m → m < j → has taken m ≡ true) → free_below taken j ≡ free_below taken i
 all-taken taken i j zero e all = let same : j ≡ i = omega (arith, e) in ap (free_below taken) same
 all-taken taken i zero (suc d) e all = absurd (omega (arith, e))
 all-taken taken i (suc j) (suc d) e all = grind (arith, step-taken, (all-taken taken i j d (omega (arith, e)) (λ m low high. all m low (omega (arith, high)))))
 
--- one more that is taken makes one less free at most
+-- one more that is used makes at most one less free
 none-less : (t : ℕ) (ts : List ℕ) (n : ℕ) → n ≤ t → free_below (t ∷ ts) n ≡ free_below ts n
 none-less t ts zero le = refl
 none-less t ts (suc n) le = grind (arith, nat_eq, ne_eqb, (none-less t ts n (omega (arith, le))))
@@ -56,7 +56,7 @@ no-taken : (n : ℕ) → free_below [] n ≡ n
 no-taken zero = refl
 no-taken (suc n) = omega (arith, no-taken n)
 
--- no number is past those that are free before it and all that are taken
+-- no number is past those that are free before it and all that are used
 pub rank-high : (taken : List ℕ) (n : ℕ) → n ≤ length taken + free_below taken n
 rank-high [] n = omega (arith, no-taken n)
 rank-high (t ∷ ts) n = omega (arith, rank-high ts n, one-less t ts n)
@@ -97,14 +97,14 @@ free-same xs ys (suc n) same =
     let j = least-same xs ys same in
     λ i. j i ∷ (free-same (least_free xs ∷ xs) (least_free ys ∷ ys) n (λ m. λ i. nat_eq m (j i) || same m i)) i
 
--- the least that is free is not below an index below which all are taken
+-- the least that is free is not below an index below which all are used
 not-below : (now : List ℕ) (i : ℕ) → ((m : ℕ) → m < i → has now m ≡ true) → i ≤ least_free now
 not-below now i all = grind (arith, least-none now, true-false)
 
 up-to : (now : List ℕ) (m : ℕ) → m < suc (least_free now) → has (least_free now ∷ now) m ≡ true
 up-to now m lt = grind (arith, least-below, nat_tests)
 
--- those below an index are all taken meanwhile, and from it on nothing has changed
+-- those below an index are all used by then, and from it on nothing has changed
 in-turn : (taken now : List ℕ) (i n k x : ℕ) → ((m : ℕ) → m < i → has now m ≡ true) → ((m : ℕ) → i ≤ m → has now m ≡ has taken m)
     → slice_get (free_indices now n) k ≡ Some x → (has taken x ≡ false) × (free_below taken x ≡ free_below taken i + k)
 in-turn taken now i zero k x all same at = absurd (none-some x at)
@@ -123,7 +123,7 @@ in-turn taken now i (suc n) (suc k) x all same at =
 pub free-at : (taken : List ℕ) (n k x : ℕ) → slice_get (free_indices taken n) k ≡ Some x → (has taken x ≡ false) × (free_below taken x ≡ k)
 free-at taken n k x at = grind (arith, in-turn taken taken 0 n k x (λ m lt. absurd (omega (arith, lt))) (λ m le. refl) at)
 
--- what was free in turn is taken meanwhile
+-- what was free in turn is used by then
 pub free-split : (taken : List ℕ) (m n : ℕ) → free_indices taken (m + n) ≡ free_indices taken m ++ free_indices (taken ++ free_indices taken m) n
 free-split taken zero n = grind (arith, append-nil)
 free-split taken (suc m) n =
@@ -137,7 +137,8 @@ get-behind : (xs ys : List ℕ) (k : ℕ) → slice_get (xs ++ ys) (length xs + 
 get-behind [] ys k = let none : 0 + k ≡ k = omega arith in ap (slice_get ys) none
 get-behind (x ∷ xs) ys k = let more : suc (length xs) + k ≡ suc (length xs + k) = omega arith in ap (slice_get (x ∷ xs ++ ys)) more ∙ get-behind xs ys k
 
--- a free number before which so many are free is the next in turn, where so many less were free in turn
+-- a free number before which so many are free is the next in turn, where so many less were free in
+-- turn
 pub free-next : (taken : List ℕ) (m n k x : ℕ) → has taken x ≡ false → free_below taken x ≡ m + k → k < n
     → slice_get (free_indices (taken ++ free_indices taken m) n) k ≡ Some x
 free-next taken m n k x none rank lt =
@@ -151,7 +152,7 @@ free-next taken m n k x none rank lt =
     let f = free-at taken (m + n) (m + k) y whole in
     here ∙ ap Some (same-rank taken y x f.0 none (f.1 ∙ sym rank))
 
--- ---- what is free in turn is not taken, is low, and is there once
+-- ---- what is free in turn is not used, is low, and occurs once
 
 pub not-taken : (taken : List ℕ) (n x : ℕ) → has (free_indices taken n) x ≡ true → has taken x ≡ false
 not-taken taken n x is = let p = place-any (free_indices taken n) x is in (free-at taken n p.place x p.at).0

@@ -64,7 +64,7 @@ indices-pushed [] e = omega (arith, length-append e.1.indices (indices_of []))
 indices-pushed (x ∷ es) e = grind (arith, length-append, (indices-pushed es e))
 
 module _ {Key : Type 0} {content : Key → List WasmSubType} {places : Key → Option ℕ} {members : ℕ} {es : Groups} (k : AreFresh content places members es) where
-  -- the map may be another that has the same
+  -- the map may be another that has the same entries
   pub fresh-same : (places' : Key → Option ℕ) → ((key : Key) → places' key ≡ places key) → AreFresh content places' members es
   fresh-same places' same = grind (arith, common_steps)
 

@@ -1,4 +1,4 @@
--- What is kept stays so where a group is kept that was not.
+-- What is kept remains so where a new group is kept.
 use Rattle.std.proofs.Common.{◌≡◌, ◌∙◌, ◌<◌, ◌↔◌, ℕ, zero, suc, ◌+◌, Bool, true, false, nat_eq, List, [], ◌∷◌, ◌++◌, length, map, set, slice_get, Option, Some, None, refl, sym, ap, arith, length-set}
 use Rattle.std.specs.Prelude.{cond, Result, is_ok, OnOk}
 use Rattle.std.specs.List.{list_any}
@@ -36,7 +36,7 @@ owned-else f p os (n ∷ ns) i none =
     owned-else f (p + 1) (set os n (Some (record { first = f; place = p }))) ns i (λ q at. none (suc q) at)
     ∙ set-other os n i (Some (record { first = f; place = p })) (λ e. none 0 (ap Some (sym e)))
 
--- the index at a place has that place for its owner
+-- the index at a position has that position for its owner
 owned-at : (f p : ℕ) (os : List (Option Owner)) (ns : List ℕ) (q i : ℕ) → slice_get ns q ≡ Some i → i < length os
     → ((r : ℕ) → slice_get ns r ≡ Some i → r ≡ q) → owner_at (owned_by f p os ns) i ≡ Some (record { first = f; place = p + q })
 owned-at f p os [] q i at h one = absurd (none-some i at)
@@ -74,8 +74,8 @@ length-kept (Some x ∷ gs) k (suc f) g h none = grind (arith, length-append, se
 abbrev pub Eq : List WasmSubType → List WasmSubType → Bool
 Eq = groups_equal.ghosts.eq
 
--- a new group that may be kept: there is room, its indices are distinct and not live, and no kept
--- group is equal
+-- a new group that may be kept: there is capacity, its indices are distinct and not live, and no
+-- kept group is equal
 pub record IsNew (gs : List (Option Group)) (os : List (Option Owner)) (f : ℕ) (g : Group) : Type 0 where
   pub room : f < length gs
   pub empty : group_in gs f ≡ None

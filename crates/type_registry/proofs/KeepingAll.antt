@@ -44,7 +44,7 @@ once-right : (xs ys : List ℕ) → IsOnce (xs ++ ys) → IsOnce ys
 once-right [] ys o = o
 once-right (x ∷ xs) ys o = once-right xs ys o.1
 
--- what the second has the first has not
+-- what the second has and the first does not
 once-apart : (xs ys : List ℕ) (n : ℕ) → IsOnce (xs ++ ys) → list_any (nat_eq n) ys ≡ true → list_any (nat_eq n) xs ≡ false
 once-apart [] ys n o has = refl
 once-apart (x ∷ xs) ys n o has = grind (arith, not-right, nat_tests, (once-apart xs ys n o.1 has))
@@ -87,8 +87,8 @@ abbrev pub AllApart : Groups → Type 0
 AllApart [] = ⊤
 AllApart (e ∷ es) = AllUnlike e.1 es × AllApart es
 
--- groups that may all be kept: there is room, their indices are distinct and not live, and no two
--- are equal, nor one and a kept one
+-- groups that may all be kept: there is capacity, their indices are distinct and not live, and no
+-- two are equal, nor one and a kept one
 pub record MayKeep (s : GroupsState) (es : Groups) : Type 0 where
   pub few : length (indices_of s.groups) + length (indices_of es) < 4294967296
   pub spare : length es ≤ s.spare

@@ -11,7 +11,7 @@ pub left_push : (gs : List (ℕ × Group)) (fs : List ℕ) (f : ℕ)
 left_push gs [] f = refl
 left_push gs (x ∷ fs) f = left_push (leave_group gs x (lookup (nat_eq x) gs)) fs f
 
--- what is left has no more indices
+-- what remains has no more indices
 remove-short : (f : ℕ) (gs : List (ℕ × Group)) → length (indices_of (remove_entry (nat_eq f) gs)) ≤ length (indices_of gs)
 remove-short f [] = omega arith
 remove-short f (e ∷ gs) = let rest = remove-short f gs in grind (arith, nat_tests, length-append)

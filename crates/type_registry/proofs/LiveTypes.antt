@@ -58,7 +58,7 @@ copied-some : {A B : Type 0} (f : A → B) (o : Option (Bor A)) → is_some (opt
 copied-some f None = refl
 copied-some f (Some x) = refl
 
--- what is got for an index is a type exactly where the index is live
+-- a look-up of an index gives a type exactly where the index is live
 pub got-live : (r : Registry) → IsBalanced r → (n : ℕ) (o : Option (Bor WasmSubType)) → option_map sub_type_of (option_copied o) ≡ type_at r n
     → IsSome o ↔ Contains (live r) n
 got-live r b n o is =

@@ -38,7 +38,7 @@ emptied-push os (m ∷ ns) n = emptied-push (set os m None) ns n
 pub any-place : (ns : List ℕ) (i p : ℕ) → slice_get ns p ≡ Some i → list_any (nat_eq i) ns ≡ true
 any-place ns i p at = any_passes_from_place (nat_eq i) ns p i at (eq-eqb i i refl)
 
--- a place of a number
+-- a position of a number
 pub record Place (ns : List ℕ) (i : ℕ) : Type 0 where
   pub place : ℕ
   pub at : slice_get ns place ≡ Some i

@@ -23,7 +23,7 @@ use Rattle.type_registry.proofs.PlanGroups.{mapped-long, found-equal, find-some,
 use Rattle.type_registry.proofs.Seen.{had-back}
 use Rattle.type_registry.proofs.Sound.{AllFirst}
 
--- ---- canonical members by the indices of a whole module
+-- ---- canonical members by the indices of a complete module
 
 edge-more : (xs ys : List ℕ) (start : ℕ) → start ≤ length xs → (e : EngineOrModuleTypeIndex)
     → consed_edge (given xs) start e ≡ consed_edge (given (xs ++ ys)) start e
@@ -35,15 +35,15 @@ data-more l s xs ys at =
     let same : consed_edge (given xs) s.start ≡ consed_edge (given (xs ++ ys)) s.start = (λ i. λ e. edge-more xs ys s.start at e i) in
     ap (λ (f : EngineOrModuleTypeIndex → EngineOrModuleTypeIndex). map_group (named f) f (group_of (members_of l s))) same
 
--- a part that lies in the front
+-- a part that is in the front
 part-within : (xs ys : List ℕ) (n s : ℕ) → s + n ≤ length xs → take n (drop s (xs ++ ys)) ≡ take n (drop s xs)
 part-within xs ys n s le = grind (arith, drop-append-le, take-append-le, length-drop)
 
--- the part behind the front is the rest
+-- the part after the front is the rest
 part-behind : (xs ys : List ℕ) (s n : ℕ) → length xs ≡ s → length ys ≡ n → take n (drop s (xs ++ ys)) ≡ ys
 part-behind xs ys s n at long = grind (arith, drop-append-le, drop_of_length-le, take_all)
 
--- ---- what a group that is found among some tells
+-- ---- what follows from a group that is found among some
 
 pub record IsAt (es : Groups) (g : Group) : Type 0 where
   pub place : ℕ
@@ -78,7 +78,7 @@ pub record IsPlanned (gs : Groups) (l : TypeList) (p : Plan) (s : Span) : Type 0
   pub within : s.end ≤ length p.listed.indices
   pub among : find_group group.canonical (gs ++ p.fresh) ≡ Some group
 
--- it stays so where more groups follow
+-- it remains so where more groups follow
 planned-more : (gs : Groups) (l : TypeList) (listed : Module) (es fs : Groups) (ns firsts : List ℕ) (s : Span)
     → IsPlanned gs l (plan listed es) s → IsPlanned gs l (plan (record { indices = listed.indices ++ ns; groups = firsts }) (es ++ fs)) s
 planned-more gs l listed es fs ns firsts s w =
@@ -138,7 +138,7 @@ module _ (equal : (x y : List WasmSubType) → (Eq x y ≡ true) ↔ (x ≡ y)) 
   EachPlanned p [] = ⊤
   EachPlanned p (s ∷ ss) = IsPlanned gs l p s × EachPlanned p ss
 
-  -- all groups of a plan, once those that are left are planned
+  -- all groups of a plan, once the remaining ones are planned
   pub record ArePlanned (p : Plan) (ss : List Span) (end : ℕ) : Type 0 where
     pub each : EachPlanned (plan_groups gs l p ss) ss
     pub first : AllFirst (gs ++ (plan_groups gs l p ss).fresh)

@@ -60,7 +60,7 @@ pub find-none : (gs es : Groups) (c : List WasmSubType) → find_group c gs ≡ 
 find-none [] es c none = refl
 find-none (x ∷ gs) es c none = let rest = find-none gs es c in let equal = cases_Bool (Eq x.1.canonical c) in grind arith
 
--- where none of both is found
+-- where it is neither
 pub none-first : (gs es : Groups) (c : List WasmSubType) → find_group c (gs ++ es) ≡ None → find_group c gs ≡ None
 none-first gs es c none = none-of (find_group c gs) (λ g e. none-some g (sym none ∙ find-some gs es c g e))
 
@@ -94,7 +94,7 @@ first-more gs es c n first = grind (arith, common_steps, indices-one, next-free,
 pub next-length : (gs es : Groups) (c : List WasmSubType) (n : ℕ) → length (indices_of (es ++ at_first (next_group gs es c n) ∷ [])) ≡ length (indices_of es) + n
 next-length gs es c n = grind (arith, indices-one, length-append, free-length)
 
--- ---- what holds of the new groups all along
+-- ---- what holds of the new groups throughout
 
 apart-last : (es : Groups) (e : ℕ × Group) → find_group e.1.canonical es ≡ None → AllApart es → AllApart (es ++ e ∷ [])
 apart-last [] e none apart = (tt, tt)
@@ -135,7 +135,7 @@ new-groups gs l p (s ∷ ss) new = new-groups gs l (plan_group gs l p s) ss (new
 pub planned-new : (gs : Groups) (l : TypeList) → AreNew gs (plan_groups gs l begun (map span_of l.groups)).fresh
 planned-new gs l = new-groups gs l begun (map span_of l.groups) (none-new gs)
 
--- new groups may be kept where there is room
+-- new groups may be kept where there is capacity
 pub new-may-keep : (s : GroupsState) (es : Groups) → AreNew s.groups es → length (indices_of s.groups) + length (indices_of es) < 4294967296
     → length es ≤ s.spare → length (indices_of s.groups) + length (indices_of es) ≤ s.room → MayKeep s es
 new-may-keep s es new few spare room = grind (arith, nat_eq, free-low, not-taken, free-once)
@@ -169,7 +169,7 @@ module _ (gs : Groups) (l : TypeList) (p : Plan) (s : Span) (c : List WasmSubTyp
       → plan_group gs l p s ≡ plan (with_group p.listed (next c)) (p.fresh ++ at_first (next c) ∷ [])
   unknown-group none = grind (arith, common_steps)
 
--- ---- the groups that are left
+-- ---- the remaining groups
 
 abbrev pub Numbered : Type 0
 Numbered = Index ModuleInternedRecGroupSpace × Range TypeIndex

@@ -35,7 +35,7 @@ listed-more : (at : ℕ → Option Group) (m : Module) (g : Group) → at (first
 listed-more at m g is w = grind (arith, append-nil, flat_map-append, nat_eq, times-append, eqb-true)
 
 module _ (equal : (x y : List WasmSubType) → (Eq x y ≡ true) ↔ (x ≡ y)) (gs : Groups) (l : TypeList) where
-  -- a group that is found stays so where more groups are planned
+  -- a group that is found remains so where more groups are planned
   found-next : (p : Plan) (s : Span) (c : List WasmSubType) (g : Group) → find_group c (gs ++ p.fresh) ≡ Some g
       → find_group c (gs ++ (plan_group gs l p s).fresh) ≡ Some g
   found-next p s c g is = grind (arith, either-planned, append_assoc, find-some)
@@ -98,7 +98,7 @@ module _ (equal : (x y : List WasmSubType) → (Eq x y ≡ true) ↔ (x ≡ y)) 
   listed-by : IsListedBy (found kept) p.listed
   listed-by = planned-listed equal r.groups l (found kept) begun (map span_of l.groups) kept-first (none-listed (found kept))
 
-  -- what is kept is kept once groups are counted, but for its count
+  -- what is kept is kept once groups are counted, except for its count
   same-indices : (first : ℕ) (g : Group) → found kept first ≡ Some g → indices_in (found kept first) ≡ indices_at now first
   same-indices first g is = grind (arith, counted-is kept p.listed.groups first g is)
 

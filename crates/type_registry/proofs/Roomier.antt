@@ -1,4 +1,4 @@
--- What is kept stays so where there is room for more.
+-- What is kept remains so where there is capacity for more.
 use Rattle.std.proofs.lemmas.Grind.{common_steps}
 use Rattle.std.specs.Prelude.{[], replicate}
 use Rattle.std.proofs.Common.{◌≡◌, ◌∙◌, ◌<◌, ℕ, zero, suc, ◌+◌, List, ◌∷◌, ◌++◌, length, map, slice_get, Option, Some, None, option_and_then, refl, sym, ap, arith}
@@ -13,7 +13,7 @@ use Rattle.type_registry.specs.Keeping.{kept_from, AreKept}
 abbrev nothing : {A : Type 0} → Option A
 nothing = None
 
--- nothing is at places that are only room
+-- nothing is at positions that are only capacity
 room-at : {A : Type 0} (n f : ℕ) → option_and_then (λ (o : Option A). o) (slice_get (replicate n (nothing {A = A})) f) ≡ None
 room-at zero f = refl
 room-at (suc n) zero = refl
@@ -53,7 +53,7 @@ are-counts (Some o ∷ os) n = (omega arith, are-counts os n)
 
 module _ {Key : Type 0} {content : Key → List WasmSubType} {live : ℕ} {known : Key → Option ℕ} {gs : List (Option Group)} {os : List (Option Owner)}
     {free : List ℕ} (k : AreKept content live known gs os free) where
-  -- the map may be another that has the same
+  -- the map may be another that has the same entries
   pub kept-known : (known' : Key → Option ℕ) → ((key : Key) → known' key ≡ known key) → AreKept content live known' gs os free
   kept-known known' same = grind (arith, common_steps)
 

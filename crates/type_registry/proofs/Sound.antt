@@ -1,4 +1,4 @@
--- Kept groups are told ne_eqb, also once more are kept and counted.
+-- Kept groups are told apart, also once more are kept and counted.
 use Rattle.std.specs.Prelude.{[], ⊤}
 use Rattle.std.proofs.Common.{if◌then◌else◌, ◌≡◌, ◌∙◌, ◌↔◌, ◌<◌, ℕ, zero, suc, true, nat_eq, nat_le, List, ◌∷◌, length, slice_get, Option, Some, None, refl, sym, ap, arith, eq-eqb}
 use Rattle.std.specs.List.{list_any}
@@ -24,7 +24,7 @@ found gs i = lookup (nat_eq i) gs
 abbrev Kept : Type 0
 Kept = ℕ × Group
 
--- ---- what a group that is found tells
+-- ---- what follows from a group that is found
 
 pub found-index : (gs : Groups) (i p n : ℕ) (h : Group) → found gs i ≡ Some h → slice_get h.indices p ≡ Some n → list_any (nat_eq n) (indices_of gs) ≡ true
 found-index [] i p n h is at = absurd (none-some h is)
@@ -98,7 +98,7 @@ module _ (equal : (x y : List WasmSubType) → (Eq x y ≡ true) ↔ (x ≡ y)) 
   keeps-sound [] s sound may first = sound
   keeps-sound (e ∷ es) s sound may first = grind (arith, (keeps-sound es (with_one s e) (keep-sound equal s e.0 e.1 sound may.0 first.0 first.1) (may-rest s e es may) first.2))
 
-  -- a group that is kept stays so
+  -- a group that is kept remains so
   pub keeps-found : (es : Groups) (s : GroupsState) (i : ℕ) (h : Group) → IsSound s.groups → MayKeepAll s es → AllFirst es → found s.groups i ≡ Some h
       → found (keep_groups s.groups es) i ≡ Some h
   keeps-found [] s i h sound may first is = is
@@ -122,7 +122,7 @@ module _ (equal : (x y : List WasmSubType) → (Eq x y ≡ true) ↔ (x ≡ y)) 
 abbrev pub bare : Group → Group
 bare g = record g { count = 0 }
 
--- what a group of one list is in another but for its count
+-- what a group of one list is in another except for its count
 pub record IsBut (gs : Groups) (i : ℕ) (h : Group) : Type 0 where
   pub group : Group
   pub kept : found gs i ≡ Some group
@@ -143,7 +143,7 @@ counts-bare : (gs : Groups) (fs : List ℕ) (i : ℕ) → option_map bare (found
 counts-bare gs [] i = refl
 counts-bare gs (f ∷ fs) i = counts-bare (count_group gs f (found gs f)) fs i ∙ count-bare gs f i (found gs f) refl
 
--- what is kept before is kept after, but for its count, and the other way round
+-- what is kept before is kept after, except for its count, and the other way round
 pub counted-is : (gs : Groups) (fs : List ℕ) (i : ℕ) (h : Group) → found gs i ≡ Some h → IsBut (count_groups gs fs) i h
 counted-is gs fs i h is = but-of (count_groups gs fs) i h (found (count_groups gs fs) i) refl (counts-bare gs fs i ∙ ap (option_map bare) is)
 
@@ -165,7 +165,7 @@ counts-ordered : (gs : Groups) (fs : List ℕ) → AreOrdered gs → AreOrdered 
 counts-ordered gs [] all = all
 counts-ordered gs (f ∷ fs) all = counts-ordered (count_group gs f (found gs f)) fs (count-ordered f gs (found gs f) all)
 
--- what is kept in order, and was kept but for its count, is told ne_eqb as it was
+-- what is kept in order, and was kept except for its count, is told apart as it was
 sound-but : (gs now : Groups) → AreOrdered now → ((i : ℕ) (h : Group) → found now i ≡ Some h → IsBut gs i h) → IsSound gs → IsSound now
 sound-but gs now ordered was sound = record {
   ordered = ordered;
@@ -202,7 +202,7 @@ remove-ordered f (e ∷ gs) all = grind (arith, cond_both, remove-above, (remove
 pub leave-ordered : (gs : Groups) (f : ℕ) (o : Option Group) → AreOrdered gs → AreOrdered (leave_group gs f o)
 leave-ordered gs f o h1 = grind (arith, cond_both, nat_le, nat_eq, remove-ordered, set-ordered)
 
--- what is kept once a module leaves a group was kept, but for its count
+-- what is kept once a module leaves a group was kept, except for its count
 pub leave-was : (gs : Groups) (f : ℕ) (o : Option Group) → found gs f ≡ o → AreOrdered gs → (i : ℕ) (h : Group) → found (leave_group gs f o) i ≡ Some h → IsBut gs i h
 leave-was gs f o h1 h2 i h h3 = grind (arith, nat_le, nat_eq, removed-was, but-of, set-bare)
 

@@ -88,7 +88,7 @@ pub left-had : (gs : Groups) (fs : List ℕ) → AreOrdered gs → AreHad gs →
 left-had gs [] ordered had = had
 left-had gs (f ∷ fs) ordered had = grind (arith, (left-had (leave_group gs f (found gs f)) fs (leave-ordered gs f (found gs f) ordered) (one-had gs f (found gs f) refl ordered had)))
 
--- what is kept once groups are left was kept, but for its count
+-- what is kept once groups are left was kept, except for its count
 pub left-was : (gs : Groups) (fs : List ℕ) (i : ℕ) (h : Group) → AreOrdered gs → found (leave_groups gs fs) i ≡ Some h → IsBut gs i h
 left-was gs [] i h ordered is = record { group = h; kept = is; same = refl }
 left-was gs (f ∷ fs) i h ordered is =

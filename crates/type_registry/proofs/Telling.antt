@@ -28,7 +28,7 @@ abbrev canonical_in : Option Group → WasmRecGroup
 canonical_in None = []
 canonical_in (Some g) = g.canonical
 
--- ---- a module that stands
+-- ---- a module that is held
 
 module _ {r : Registry} {a : ℕ} {l : TypeList} (listed : Listed l) (st : Stands r a l) where
   abbrev pub indices : List ℕ

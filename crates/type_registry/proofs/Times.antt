@@ -18,7 +18,7 @@ times-append n (x ∷ xs) ys = omega (arith, times-append n xs ys)
 pub times-first : (n : ℕ) (xs : List ℕ) → 0 < times n (n ∷ xs)
 times-first n xs = omega (arith, ap {B = ℕ} (λ (c : Bool). if c then 1 else 0) (eq-eqb n n refl))
 
--- lists by number are one behind another as other ones that are equal at each number of the list
+-- lists concatenated by number equal other ones that are equal at each number of the list
 pub flat-same : (ix ix' : ℕ → List ℕ) (ns : List ℕ) → ((n : ℕ) → 0 < times n ns → ix n ≡ ix' n) → flat_map ix ns ≡ flat_map ix' ns
 flat-same ix ix' [] same = refl
 flat-same ix ix' (x ∷ ns) same = grind (arith, times-first, (flat-same ix ix' ns (λ n lt. same n (omega (arith, lt)))))

@@ -34,7 +34,7 @@ indices_at r first = indices_in (kept_at r first)
 
 -- kept groups are told apart; no key is held before it is given; a group is kept exactly as long as
 -- held modules have it, and its count is how often they have it; and the list of a held module is
--- that of its groups, one behind another
+-- the concatenation of its groups
 pub record IsBalanced (r : Registry) : Type 0 where
   pub sound : IsSound r.groups
   pub unused : (key : ℕ) → r.registrations ≤ key → r.held key ≡ None

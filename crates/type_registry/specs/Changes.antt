@@ -1,4 +1,4 @@
--- What a registration and a release make of a registry.
+-- How a registration and a release change a registry.
 use Rattle.std.specs.Prelude.{◌≡◌, ◌<◌, ℕ, zero, suc, ◌+◌, ◌-◌, ◌⊎◌, nat_eq, nat_le, List, [], ◌∷◌, ◌++◌, map, length, get_or, take, drop, Option, Some, None, if◌then◌else◌}
 use Rattle.std.specs.List.{list_any}
 use Rattle.std.specs.Map.{lookup, set_value, remove_entry}
@@ -34,7 +34,7 @@ least_from taken i (suc n) = if list_any (nat_eq i) taken then least_from taken 
 abbrev pub least_free : List ℕ → ℕ
 least_free taken = least_from taken 0 (past taken)
 
--- in turn the least number that is not taken
+-- in turn the least number that is not used
 abbrev pub free_indices : List ℕ → ℕ → List ℕ
 free_indices taken zero = []
 free_indices taken (suc n) = least_free taken ∷ free_indices (least_free taken ∷ taken) n
@@ -57,7 +57,7 @@ edges_of ts = group_edges index_in (group_of ts)
 abbrev pub IsGiven : ℕ → TypeIndex → Type 0
 IsGiven n i = number_of i < n
 
--- references inside the group by their places, and all others by the engine's indices
+-- references inside the group by their positions, and all others by the engine's indices
 abbrev pub canonical_data : TypeList → List ℕ → Span → types.Group Name EngineOrModuleTypeIndex
 canonical_data l indices s =
     map_group (named (consed_edge (given indices) s.start)) (consed_edge (given indices) s.start) (group_of (members_of l s))
@@ -100,7 +100,7 @@ at_first g = (first_index g, g)
 abbrev pub next_group : Groups → Groups → List WasmSubType → ℕ → Group
 next_group gs fresh canonical n = new_group canonical (free_indices (indices_of (gs ++ fresh)) n)
 
--- a group that is known takes its indices
+-- a group that is known keeps its indices
 abbrev pub take_group : Plan → Group → Option Group → Plan
 take_group p new (Some g) = record p { listed = with_group p.listed g }
 take_group p new None = record { listed = with_group p.listed new; fresh = p.fresh ++ at_first new ∷ [] }
@@ -120,11 +120,11 @@ plan_groups gs l p (s ∷ ss) = plan_groups gs l (plan_group gs l p s) ss
 abbrev pub planned : Registry → TypeList → Plan
 planned r l = plan_groups r.groups l begun (map span_of l.groups)
 
--- how many members the groups have in sum that are not kept yet, each group once
+-- how many members the groups that are not kept yet have in sum, each group once
 abbrev pub fresh : Registry → TypeList → ℕ
 fresh r l = length (indices_of (planned r l).fresh)
 
--- there would be more types than may be live, or no number is left for the key
+-- there would be more types than may be live, or no number remains for the key
 abbrev pub IsFull : Registry → TypeList → Type 0
 IsFull r l = (r.max_types < length (live r) + fresh r l) ⊎ (r.registrations ≡ 18446744073709551615)
 
@@ -161,7 +161,7 @@ registered r l = record r {
 
 -- ---- a release
 
--- the group at a first index is counted otherwise
+-- the count of the group at a first index changes
 abbrev pub with_count : Groups → ℕ → ℕ → Option Group → Groups
 with_count gs first n None = gs
 with_count gs first n (Some g) = set_value (nat_eq first) gs (record g { count = n })
@@ -171,7 +171,7 @@ leave_group gs first None = gs
 leave_group gs first (Some g) =
     if nat_le g.count 1 then remove_entry (nat_eq first) gs else set_value (nat_eq first) gs (record g { count = g.count - 1 })
 
--- each group counts once less, and one that no module has any more is kept no longer
+-- each group counts once less, and one that no module has any more is removed
 abbrev pub leave_groups : Groups → List ℕ → Groups
 leave_groups gs [] = gs
 leave_groups gs (first ∷ firsts) = leave_groups (leave_group gs first (lookup (nat_eq first) gs)) firsts

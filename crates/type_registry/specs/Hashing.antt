@@ -1,9 +1,9 @@
--- Hashes whose writes are whole words.
+-- Hashes whose writes are complete words.
 use Rattle.std.specs.Prelude.{ℕ, ◌-◌, ◌++◌, List, length, nat_lt, replicate, if◌then◌else◌}
 use Rattle.std.specs.Hash.DefaultHasher as sip
 use Rattle.type_registry.specs.declared.hashing.WordHasher.{WordHasher}
 
--- what is shorter than a word is filled with zeros
+-- what is shorter than a word is padded with zeros
 abbrev pub padded : List ℕ → List ℕ
 padded bytes = bytes ++ replicate (8 - length bytes) 0
 

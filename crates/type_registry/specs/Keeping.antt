@@ -20,7 +20,7 @@ kept_from i (Some g ∷ gs) = (i, g) ∷ kept_from (i + 1) gs
 abbrev pub group_in : List (Option Group) → ℕ → Option Group
 group_in gs n = option_and_then (λ (g : Option Group). g) (slice_get gs n)
 
--- an index that has an owner is the one at the owner's place of the owner's group
+-- an index that has an owner is the one at the owner's position of the owner's group
 pub record IsOwned (gs : List (Option Group)) (n : ℕ) (o : Owner) : Type 0 where
   pub group : Group
   pub kept : group_in gs o.first ≡ Some group
@@ -32,8 +32,8 @@ pub record HasCanonical (gs : List (Option Group)) (f : ℕ) (c : List WasmSubTy
   pub kept : group_in gs f ≡ Some group
   pub same : group.canonical ≡ c
 
--- how many indices are live; what has each of them; and the first index of each group by keys that
--- are its canonical members
+-- how many indices are live; the owner of each; and the first index of each group by keys that are
+-- its canonical members
 pub record AreKept {Key : Type 0} (content : Key → List WasmSubType) (live : ℕ) (known : Key → Option ℕ) (gs : List (Option Group))
     (os : List (Option Owner)) (free : List ℕ) : Type 0 where
   pub few : length gs < 4294967296

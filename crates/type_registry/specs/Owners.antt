@@ -1,4 +1,4 @@
--- What has each index, and which indices have no owner.
+-- The owner of each index, and which indices have no owner.
 use Rattle.std.specs.Prelude.{ℕ, ◌+◌, List, [], ◌∷◌, set, slice_get, Option, Some, None, option_and_then}
 use Rattle.type_registry.specs.declared.owners.Owner.{Owner}
 
@@ -14,7 +14,7 @@ abbrev pub emptied : List (Option Owner) → List ℕ → List (Option Owner)
 emptied os [] = os
 emptied os (n ∷ ns) = emptied (set os n None) ns
 
--- the members of a group have its indices, from a place on
+-- the members of a group have its indices, from a position on
 abbrev pub owned_by : ℕ → ℕ → List (Option Owner) → List ℕ → List (Option Owner)
 owned_by first place os [] = os
 owned_by first place os (n ∷ ns) = owned_by first (place + 1) (set os n (Some (record { first = first; place = place }))) ns

@@ -18,7 +18,7 @@ pub record MayBePlanned (l : TypeList) (s : Span) : Type 0 where
   pub consed : All (CanBeConsedEdge (IsGiven s.start) s.start s.end) (edges_of (members_of l s))
   pub used : All (CanBeRuntimeEdge (IsGiven s.end)) (edges_of (members_of l s))
 
--- groups behind one another, from a type on
+-- consecutive groups, from a type on
 abbrev pub MayBePlannedFrom : TypeList → ℕ → List Span → Type 0
 MayBePlannedFrom l first [] = ⊤
 MayBePlannedFrom l first (s ∷ ss) = (s.start ≡ first) × MayBePlanned l s × MayBePlannedFrom l s.end ss
@@ -33,13 +33,13 @@ plan listed fresh = record { listed = listed; fresh = fresh }
 abbrev pub HaveFirstFree : List ℕ → Groups → Type 0
 HaveFirstFree taken es = indices_of es ≡ free_indices taken (length (indices_of es))
 
--- the group at a place has these canonical members
+-- the group at a position has these canonical members
 pub record HasMembers (es : Groups) (p : ℕ) (c : List WasmSubType) : Type 0 where
   pub entry : ℕ × Group
   pub at : slice_get es p ≡ Some entry
   pub same : entry.1.canonical ≡ c
 
--- how many members they have, and the place of each by keys that are its canonical members
+-- how many members they have, and the position of each by keys that are its canonical members
 pub record AreFresh {Key : Type 0} (content : Key → List WasmSubType) (places : Key → Option ℕ) (members : ℕ) (es : Groups) : Type 0 where
   pub counted : members ≡ length (indices_of es)
   pub found : (p : ℕ) (e : ℕ × Group) → slice_get es p ≡ Some e → (key : Key) → content key ≡ e.1.canonical → places key ≡ Some p

@@ -13,7 +13,7 @@ use Rattle.wasm_types.specs.Views.{engine_index}
 use Rattle.wasm_types.specs.ValueViews.{Name}
 use Rattle.wasm_types.specs.TypeViews.{sub_type_of}
 
--- a kept group: its members, with references inside it as places and all others as the engine's
+-- a kept group: its members, with references inside it as positions and all others as the engine's
 -- indices; the index of each; and how often held modules have it
 pub record Group : Type 0 where
   pub canonical : List WasmSubType
@@ -29,7 +29,7 @@ pub record Module : Type 0 where
 abbrev pub Groups : Type 0
 Groups = List (ℕ × Group)
 
--- kept groups, the number of indices that there is room for, and how many more groups there is room for
+-- kept groups, the capacity for indices, and the capacity for further groups
 pub record GroupsState : Type 0 where
   pub groups : Groups
   pub room : ℕ

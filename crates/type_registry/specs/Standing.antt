@@ -1,4 +1,4 @@
--- A registration that stands.
+-- A registration that is held.
 use Rattle.std.specs.Prelude.{◌≡◌, ◌<◌, ◌+◌, ◌↔◌, ⊤, ℕ, nat_eq, List, [], ◌∷◌, map, length, get_or, take, drop, slice_get, Contains, Option, Some}
 use Rattle.wasm_types.specs.TypeViews.{group_of}
 use Rattle.std.specs.Map.{lookup}
@@ -59,13 +59,13 @@ pub record IsHeld (r : Registry) (i : ℕ) : Type 0 where
 abbrev pub LiveWhereHeld : Registry → Type 0
 LiveWhereHeld r = (i : ℕ) → Contains (live r) i ↔ IsHeld r i
 
--- two registered types have one index exactly where they are equal by group and place
+-- two registered types have one index exactly where they are equal by group and position
 abbrev pub TellsTypes : Registry → ℕ → TypeList → ℕ → TypeList → Type 0
 TellsTypes r a l b k = (i j : ℕ) → i < length l.types → j < length k.types
     → (index_at r a i ≡ index_at r b j) ↔ SameType (list_groups (list_of l)) (list_groups (list_of k)) i j
 
--- a list that a registry takes: it may be registered, there is room for its types, and the kept
--- groups are told apart
+-- a list that a registry accepts: it may be registered, there is capacity for its types, and the
+-- kept groups are told apart
 pub record MayRegister (r : Registry) (l : TypeList) : Type 0 where
   pub listed : Listed l
   pub few : length l.types < 4294967295

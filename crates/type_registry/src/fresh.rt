@@ -19,7 +19,7 @@ use wasm_types::{WasmRecGroup, equality_law};
 #[derive(Drop)]
 pub(crate) struct FreshGroups {
     groups: Vec<Fresh>,
-    /// The place of each, by its canonical members.
+    /// The position of each, by its canonical members.
     places: HashMap<Rc<WasmRecGroup>, usize, GroupHashes>,
     /// How many members they have in sum.
     members: u32,
@@ -38,7 +38,7 @@ impl Model for FreshGroups {
     ghost invariant = { λ f. AreFresh shared_content (first_of f.places) f.members f.groups.items };
 }
 
-/// The group at a place.
+/// The group at a position.
 fn group_at(groups: &[Fresh], place: usize) -> Option<&Kept>
     ensures { option_copied result ≡ option_map (λ e. e.1) (slice_get groups.now place) }
 {
@@ -88,7 +88,7 @@ impl FreshGroups {
         group_at(&self.groups, place)
     }
 
-    /// Appends a group that is not there, by its name: its canonical members once more.
+    /// Appends a group that is not there, under a second copy of its canonical members.
     pub(crate) fn push(&mut self, group: Fresh, name: Rc<WasmRecGroup>) -> Result<(), OutOfMemory>
         requires few { length (indices_of self.old) + length group.1.indices < 4294967296 }
         requires name { name.value ≡ group.1.canonical }

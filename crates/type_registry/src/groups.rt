@@ -33,13 +33,13 @@ pub(crate) struct Groups {
     known: Known,
     /// Each group, at its first index.
     kept: Vec<Option<Kept>>,
-    /// What has each index, where it is live.
+    /// The owner of each index, where it is live.
     owners: Vec<Option<Owner>>,
     /// The indices that are not live.
     free: FreeNumbers,
 }
 
-/// A contract sees the groups by their first indices, in order, and the room for more.
+/// A contract sees the groups by their first indices, in order, and the capacity for more.
 impl Model for Groups {
     ghost use Rattle.std.specs.Prelude.{length};
     ghost use Rattle.std.specs.HashMap.{spare};
@@ -103,7 +103,7 @@ impl Groups {
         self.kept[first as usize] = Some(group);
     }
 
-    /// Keeps the group at a first index no longer.
+    /// Removes the group at a first index.
     fn drop_group(&mut self, first: u32)
         ensures { self.new.groups ≡ remove_entry (nat_eq first) self.old.groups }
     {
@@ -116,7 +116,7 @@ impl Groups {
         give_back(&mut self.owners, &mut self.free, &group.indices);
     }
 
-    /// Counts a group once less. One that no module has any more is kept no longer.
+    /// Counts a group once less. One that no module has any more is removed.
     pub(crate) fn leave(&mut self, first: u32)
         ensures { self.new.groups ≡ leave_group self.old.groups first (lookup (nat_eq first) self.old.groups) }
     {
@@ -141,7 +141,7 @@ impl Groups {
         self.set_count(first, count + 1);
     }
 
-    /// The index that is not live before which so many are not.
+    /// The index that is not live before which exactly `rank` indices are not live.
     pub(crate) fn free_at(&self, rank: u32) -> VMSharedTypeIndex
         requires { length (indices_of self.now.groups) + rank < u32.MAX }
         ensures free { list_any (nat_eq (number_of result)) (indices_of self.now.groups) ≡ false }
@@ -163,7 +163,7 @@ impl Groups {
         group_at(&self.kept, first as usize)
     }
 
-    /// Keeps a new group, which no module has yet, by its name: its canonical members once more.
+    /// Keeps a new group, which no module has yet, under a second copy of its canonical members.
     pub(crate) fn keep(&mut self, group: Kept, name: Rc<WasmRecGroup>)
         requires new { MayBeKept self.old group }
         requires name { name.value ≡ group.canonical }
@@ -179,7 +179,7 @@ impl Groups {
         self.kept[first as usize] = Some(group);
     }
 
-    /// Makes room for indices up to `room`.
+    /// Reserves capacity for indices up to `room`.
     fn lengthen(&mut self, alloc: Global, room: usize) -> Result<(), OutOfMemory>
         requires longer { self.old.room ≤ room }
         requires few { room < 4294967296 }
@@ -196,11 +196,11 @@ impl Groups {
         Ok(())
     }
 
-    /// Makes room for so many indices, and for more groups. Where the map of groups has to grow,
-    /// its hashes begin from the seed.
+    /// Reserves capacity for so many indices, and for more groups. Where the map of groups has to
+    /// grow, its hashes begin from the seed.
     ///
     /// # Errors
-    /// `OutOfMemory`. The groups stay.
+    /// `OutOfMemory`. The groups are unchanged.
     pub(crate) fn make_room(
         &mut self,
         alloc: Global,

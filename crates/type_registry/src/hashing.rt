@@ -9,9 +9,9 @@ use module_types::ModuleTypes;
 use std::hash::{BuildHasher, DefaultHasher, Hash, Hasher};
 use wasm_types::WasmSubType;
 
-/// SipHash that fills up what is shorter than a word, since it takes a word at once and bytes one
-/// by one. Zeros that are filled in make no two types alike: how many bytes each write has is told
-/// by the writes before it.
+/// SipHash that pads what is shorter than a word, since it reads a word at once and bytes one by
+/// one. Padding makes no two types alike: the writes before a write determine how many bytes it
+/// has.
 #[derive(Clone, Copy)]
 pub(crate) struct WordHasher {
     pub(crate) sip: DefaultHasher,
@@ -60,9 +60,9 @@ impl Hasher for WordHasher {
     }
 }
 
-/// Makes hashers of groups that have taken a seed first. Groups come module by module, and
-/// strangers choose them who know those that came before, and so the seed: each group is hashed
-/// whole by SipHash, of which no groups with one digest are known.
+/// Makes hashers of groups that are fed a seed first. Groups arrive module by module. Strangers who
+/// know the earlier groups, and so the seed, choose them. So each group is hashed completely by
+/// SipHash, for which no groups with one digest are known.
 #[derive(Clone, Copy)]
 pub(crate) struct GroupHashes {
     first: WordHasher,

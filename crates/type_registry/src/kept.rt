@@ -71,7 +71,7 @@ impl Kept {
         held.take(&self.indices)
     }
 
-    /// The type of the member at a place as it is used.
+    /// The type of the member at a position as it is used.
     pub(crate) fn type_at(&self, place: usize) -> Option<&WasmSubType>
         ensures found { option_map sub_type_of (option_copied result) ≡ slice_get (map (used_type self.now.indices) self.now.canonical) place }
         ensures engine { IfSome result (λ t. HasEngineEdges t.now) }
@@ -100,7 +100,7 @@ impl Model for Held {
 }
 
 impl Held {
-    /// No types, with room for so many.
+    /// No types, with capacity for so many.
     pub(crate) fn with_capacity(alloc: Global, count: usize) -> Result<Held, OutOfMemory>
         ensures { IfOk result (λ m. m ≡ begun.listed) }
     {
@@ -128,7 +128,7 @@ impl Held {
         self.indices.len() as u32
     }
 
-    /// The index of the type at a place.
+    /// The index of the type at a position.
     pub(crate) fn index_at(&self, place: usize) -> Option<VMSharedTypeIndex>
         ensures { option_map number_of result ≡ slice_get self.now.indices place }
     {

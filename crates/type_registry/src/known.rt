@@ -15,7 +15,7 @@ use wasm_types::{WasmRecGroup, equality_law};
 /// The first index of each kept group, by its canonical members.
 pub(crate) type Known = HashMap<Rc<WasmRecGroup>, u32, GroupHashes>;
 
-/// The same groups in another map, which has none yet and room for them.
+/// The same groups in another map, which has none yet and capacity for them.
 fn moved(old: Known, into: Known) -> Known
     requires empty { into.entries ≡ [] }
     requires room { length old.entries ≤ spare into }
@@ -30,11 +30,11 @@ fn moved(old: Known, into: Known) -> Known
     into
 }
 
-/// Makes room for more groups. Where the map has to grow, another one is made that has room for
-/// twice as many, whose hashes begin from the seed.
+/// Reserves capacity for more groups. Where the map has to grow, another one is made that has
+/// capacity for twice as many, whose hashes begin from the seed.
 ///
 /// # Errors
-/// `OutOfMemory`. The map is as it was then.
+/// `OutOfMemory`. The map is unchanged then.
 pub(crate) fn reserve(
     alloc: Global,
     known: &mut Known,

@@ -16,8 +16,8 @@ ghost use Rattle.type_registry.specs.Balanced.{IsBalanced};
 use module_types::well_named_law;
 use wasm_types::equality_law;
 
-/// A list whose groups lie behind one another and name types by their kinds may be registered, and
-/// so may the list of a builder that holds the interned list.
+/// A list whose groups are consecutive and name types by their kinds may be registered, and so may
+/// the list of a builder that holds the interned list.
 pub fn listed_law()
     ensures listed { (l : TypeList) → IsWellNamed (list_of l) → length l.types < 4294967295 → Listed l }
     ensures built { (s : BuilderState) (ms : List (Group ℕ ℕ)) (tags : List ℕ) (startup : Bool) → NameEarlier 0 ms
@@ -26,7 +26,7 @@ pub fn listed_law()
     well_named_law();
 }
 
-/// Types of two held modules have one index exactly where they are equal by group and place.
+/// Types of two held modules have one index exactly where they are equal by group and position.
 pub fn same_law()
     ensures { (r : Registry) (a b : ℕ) (l k : TypeList) → Listed l → Listed k → Stands r a l → Stands r b k → TellsTypes r a l b k }
 {}
@@ -48,7 +48,7 @@ pub fn sound_law()
     equality_law();
 }
 
-/// A module that is registered stands under its key, and each other that stood stands.
+/// A module that is registered is held under its key, and each other held module remains held.
 pub fn registered_law()
     ensures itself { (r : Registry) (l : TypeList) → MayRegister r l → Stands (registered r l) r.registrations l }
     ensures others { (r : Registry) (l k : TypeList) (key : ℕ) → MayRegister r l → (key ≡ r.registrations → ⊥) → Stands r key k
@@ -59,7 +59,7 @@ pub fn registered_law()
 
 /// Held modules and kept groups agree in a registry that holds nothing, once a module is
 /// registered, and once one is released. While they agree, an index is live exactly where the list
-/// of a held module has it, and a module that stands stays so where another one is released.
+/// of a held module has it. A held module remains held where another one is released.
 pub fn balanced_law()
     ensures empty { (n : ℕ) → IsBalanced (empty n) }
     ensures registered { (r : Registry) (l : TypeList) → MayRegister r l → IsBalanced r → IsBalanced (registered r l) }

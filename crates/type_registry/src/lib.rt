@@ -2,7 +2,7 @@
 //! index.
 //!
 //! `register` gives each new group the least free indices, and `release` frees those that no other
-//! module has. A refused call leaves the registry as it was, and no index changes while its module
+//! module has. A refused call leaves the registry unchanged, and no index changes while its module
 //! is held.
 //!
 //! ```

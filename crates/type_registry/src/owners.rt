@@ -1,4 +1,4 @@
-//! What has each index.
+//! The owner of each index.
 
 ghost use Rattle.std.specs.Prelude.{◌≡◌, ◌<◌, None, map, set, length};
 ghost use Rattle.wasm_index.specs.Index.{number_of};
@@ -12,7 +12,7 @@ use free_numbers::FreeNumbers;
 use std::alloc::Global;
 use wasm_index::VMSharedTypeIndex;
 
-/// What has an index: the first index of a group, and the place of the member in it.
+/// The owner of an index: the first index of a group, and the position of the member in it.
 #[derive(Clone, Copy)]
 pub(crate) struct Owner {
     pub(crate) first: u32,
@@ -76,7 +76,7 @@ pub(crate) fn take_all(
     }
 }
 
-/// What is kept at a place, if there is something.
+/// The entry at a position, if there is one.
 pub(crate) fn group_at(kept: &[Option<Kept>], place: usize) -> Option<&Kept>
     ensures { option_copied result ≡ group_in kept.now place }
 {
@@ -86,7 +86,7 @@ pub(crate) fn group_at(kept: &[Option<Kept>], place: usize) -> Option<&Kept>
     kept[place].as_ref()
 }
 
-/// What has an index, if something has it.
+/// The owner of an index, if it has one.
 pub(crate) fn owner_of(owners: &[Option<Owner>], index: usize) -> Option<Owner>
     ensures { result ≡ owner_at owners.now index }
 {
@@ -96,7 +96,7 @@ pub(crate) fn owner_of(owners: &[Option<Owner>], index: usize) -> Option<Owner>
     owners[index]
 }
 
-/// Takes what is kept at a place, if there is something.
+/// Takes out the entry at a position, if there is one.
 pub(crate) fn take_at(kept: &mut Vec<Option<Kept>>, place: usize) -> Option<Kept>
     ensures taken { result ≡ group_in kept.old.items place }
     ensures left { kept.new.items ≡ set kept.old.items place None }

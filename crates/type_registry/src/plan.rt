@@ -1,4 +1,4 @@
-//! What a registration is going to change, before anything changes.
+//! What a registration will change, before anything changes.
 
 ghost use Rattle.std.specs.Prelude.{◌≡◌, ◌<◌, ◌≤◌, All, IfOk, length, map};
 ghost use Rattle.wasm_spec.specs.TypeData.{map_group};
@@ -18,7 +18,7 @@ use wasm_index::{ModuleInternedTypeIndex, VMSharedTypeIndex};
 use wasm_trace::TypeTrace;
 use wasm_types::WasmRecGroup;
 
-/// A group that is not kept yet, and its canonical members once more.
+/// A group that is not kept yet, and a second copy of its canonical members.
 #[derive(Drop)]
 pub(crate) struct Fresh {
     pub(crate) kept: Kept,
@@ -38,7 +38,7 @@ impl Model for Fresh {
     ghost invariant = { λ f. f.name.value ≡ f.kept.canonical };
 }
 
-/// A copy of the types from one place to another.
+/// A copy of the types from one position to another.
 pub(crate) fn members(
     alloc: Global,
     types: &ModuleTypes,
@@ -57,7 +57,8 @@ pub(crate) fn members(
     Ok(WasmRecGroup { types: copies })
 }
 
-/// The canonical members of the group from one place to another, where the types before it have indices.
+/// The canonical members of the group from one position to another, where the types before it have
+/// indices.
 pub(crate) fn canonical(
     alloc: Global,
     types: &ModuleTypes,
@@ -81,7 +82,7 @@ pub(crate) fn canonical(
     Ok(group)
 }
 
-/// The members of the group from one place to another as they are used, where they and the types
+/// The members of the group from one position to another as they are used, where they and the types
 /// before them have indices.
 pub(crate) fn used(
     alloc: Global,

@@ -49,7 +49,7 @@ impl Model for Planned {
     ghost view = { λ p. record { listed = p.listed; fresh = p.fresh } };
 }
 
-/// The next indices that are not live, where so many before them are given away already.
+/// The next indices that are not live, where so many before them are already assigned.
 fn new_indices(
     alloc: Global,
     groups: &Groups,
@@ -81,8 +81,8 @@ fn find_equal<'a>(
     }
 }
 
-/// A group that no module has yet, whose members have these indices: the last of those that are
-/// given to types so far.
+/// A group that no module has yet, whose members have these indices: the last of those assigned to
+/// types so far.
 fn fresh_group(
     source: Source<'_>,
     start: u32,
@@ -109,7 +109,7 @@ fn fresh_group(
     Ok(Fresh { kept, name })
 }
 
-/// A group that is not known takes the next indices that are not live.
+/// A group that is not known gets the next indices that are not live.
 fn take_new(
     source: Source<'_>,
     start: u32,
@@ -187,7 +187,7 @@ fn take_group(
 /// Plans all groups of a list, one after another. Hashes begin from the seed.
 ///
 /// # Errors
-/// `Full` where the new groups have more members than there is room for, and `OutOfMemory`.
+/// `Full` where the new groups have more members than there is capacity for, and `OutOfMemory`.
 pub(crate) fn plan_groups(source: Source<'_>, seed: u64) -> Result<Planned, RegistryError>
     requires listed { Listed source.types.now }
     requires few { length (indices_of source.groups.now.groups) + source.room < u32.MAX }

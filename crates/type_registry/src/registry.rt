@@ -57,7 +57,7 @@ impl Model for TypeRegistry {
       groups = m.groups.groups;
     } };
 
-    // Held modules and kept groups agree, and counts of groups do not run over.
+    // Held modules and kept groups agree, and counts of groups do not overflow.
     ghost invariant = { λ m. (length (indices_of m.groups.groups) ≤ m.max_types) × (m.max_types < 4294967295)
         × IsBalanced (registry_of (record {
           max_types = m.max_types;
@@ -161,7 +161,8 @@ impl TypeRegistry {
         self.held(key)?.index_at(ty.index())
     }
 
-    /// The live type at an index, whose references are all the engine's: none where the index is not live.
+    /// The live type at an index, whose references are all the engine's: none where the index is
+    /// not live.
     pub fn get(&self, index: VMSharedTypeIndex) -> Option<&WasmSubType>
         ensures found { option_map sub_type_of (option_copied result) ≡ type_at (registry_of self.now) (number_of index) }
         ensures live { IsSome result ↔ Contains (live (registry_of self.now)) (number_of index) }
@@ -170,7 +171,8 @@ impl TypeRegistry {
         self.groups.get(index)
     }
 
-    /// Whether two types of held modules have one index, which is where they are equal by group and place.
+    /// Whether two types of held modules have one index, which is where they are equal by group and
+    /// position.
     pub fn same(
         &self,
         a: ModuleKey,
@@ -207,13 +209,13 @@ impl TypeRegistry {
         plan_groups(source, seed)
     }
 
-    /// Holds a module of these types: each group that no held module has takes the least indices
-    /// that are not live, and each other group has the indices that it has already. The key's
-    /// number is how many modules were registered before.
+    /// Holds a module of these types. Each group that no held module has gets the least indices
+    /// that are not live. Each other group has the indices that it has already. The key's number is
+    /// how many modules were registered before.
     ///
     /// # Errors
-    /// `Full` where there would be more types than may be live, or where no number is left for the
-    /// key; and `OutOfMemory`. The registry is as it was then.
+    /// `Full` where there would be more types than may be live, or where no number remains for the
+    /// key; and `OutOfMemory`. The registry is unchanged then.
     pub fn register(&mut self, types: &ModuleTypes) -> Result<ModuleKey, RegistryError>
         requires { Listed types.now }
         ensures key { IfOk result (λ key. key_number key ≡ self.old.registrations) }
@@ -247,11 +249,11 @@ impl TypeRegistry {
         Ok(ModuleKey(key))
     }
 
-    /// Lets a module go. Groups that no held module has any more are kept no longer, and their
-    /// indices are free. It takes no memory.
+    /// Releases a module. Groups that no held module has any more are removed, and their indices
+    /// are free. It needs no memory.
     ///
     /// # Errors
-    /// `NotHeld` where no module is held under the key; the registry is as it was then.
+    /// `NotHeld` where no module is held under the key; the registry is unchanged then.
     #[tactic(auto, using(crate::proofs::Leaving::left_short))]
     pub fn release(&mut self, key: ModuleKey) -> Result<(), RegistryError>
         ensures ok { OnOk result (registry_of self.new ≡ released (registry_of self.old) (key_number key)) }

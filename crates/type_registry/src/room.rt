@@ -1,4 +1,4 @@
-//! Room for more groups and indices.
+//! Capacity for more groups and indices.
 
 ghost use Rattle.std.specs.Prelude.{◌≡◌, ◌≤◌, ◌<◌, ◌-◌, ◌++◌, None, IfOk, length, map, replicate, vec_len, vec_capacity};
 ghost use Rattle.type_registry.specs.Owners.{free_count};
@@ -9,8 +9,8 @@ use entity_map::OutOfMemory;
 use free_numbers::FreeNumbers;
 use std::alloc::Global;
 
-/// How many indices there is to be room for where there is room for `len` and so many are needed:
-/// twice as many at least, as far as they can be counted.
+/// The capacity for indices where it is `len` and so many are needed: at least twice as many, as
+/// far as they can be counted.
 pub(crate) fn room_for(needed: u32, len: usize) -> usize
     requires { len < 4294967296 }
     ensures enough { needed ≤ result }
@@ -49,7 +49,7 @@ pub(crate) fn free_again(
     Ok(FreeNumbers::of(alloc, counts)?)
 }
 
-/// Puts no group at each of the places up to `room`, for which there is memory.
+/// Puts no group at each of the positions up to `room`, for which there is memory.
 pub(crate) fn fill(kept: &mut Vec<Option<Kept>>, room: usize)
     requires { room ≤ vec_capacity kept.old }
     ensures { kept.new.items ≡ kept.old.items ++ replicate (room - length kept.old.items) None }

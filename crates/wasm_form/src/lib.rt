@@ -2,7 +2,7 @@
 //! without a plan.
 //!
 //! The crate has no code of its own. It exports the calls and types of `form_data`, `form_reader`,
-//! `form_rules` and `form_types`, with the contracts that they have there.
+//! `form_rules` and `form_types`, with the contracts of those crates.
 //!
 //! ```
 //! let form = read_module(alloc, bytes)?;

@@ -10,7 +10,7 @@ use Rattle.import_match.specs.Linking.{engine_definitions, export_of, exported, 
 use Rattle.import_match.specs.Held.{IsTypeOf}
 use Rattle.import_match.proofs.exports.planned_exports.Given as goal
 
--- what is planned, and what the exports that are left make, are all
+-- what is planned, and what the remaining exports give, are all
 abbrev pub invariant-loop-name : goal.invariant-loop-name
 invariant-loop-name l = record {
   listed : map definition_of l.planned.items

@@ -4,7 +4,7 @@ use Rattle.import_match.specs.Resolving.{resolved}
 use Rattle.import_match.proofs.Answered.{run, before_all}
 use Rattle.import_match.proofs.imports.resolve_imports.Given as goal
 
--- the numbers so far, with the answer to the imports that are left, are the answer
+-- the numbers so far, with the result for the remaining imports, are the result
 abbrev pub invariant-loop-place : goal.invariant-loop-place
 invariant-loop-place l =
     before_all l.numbers.items

@@ -17,12 +17,12 @@ next-part : {A : Type 0} (f : Payload → List A) (left : List InputPart) (p : I
     → flat_map f (flat_map sections_of_part left) ≡ flat_map f (sections_of_part p) ++ flat_map f (flat_map sections_of_part rest)
 next-part f left p rest at = rw at (flat_map-append f (sections_of_part p) (flat_map sections_of_part rest))
 
--- the first of some, where one may have come before
+-- the first of some, where one may have been read before
 first-more : (before here : Option ℕ) (xs ys : List ℕ) → option_to_list here ≡ xs
     → slice_get (option_to_list (option_or before here) ++ ys) 0 ≡ slice_get (option_to_list before ++ (xs ++ ys)) 0
 first-more before here xs ys e = grind arith
 
--- there is room for some more of the bodies
+-- there is capacity for some more of the bodies
 bodies-few : {A B : Type 0} (view : A → B) (taken : List A) (here rest all : List B) → map view taken ++ (here ++ rest) ≡ all
     → length taken + length here ≤ length all
 bodies-few {B = B} view taken here rest all whole = omega (arith, ap length whole, length-append {A = B}, length-map taken view)

@@ -9,7 +9,8 @@ use Rattle.form_reader.specs.Input.{sections_of_part, input_module_of}
 use Rattle.module_environ.specs.Translation.{code_places}
 use Rattle.module_environ.proofs.code.take_bodies.Given as goal
 
--- with those of the sections that are left, the bodies are all, and the first place is the first of all
+-- with those of the remaining sections, the bodies are all, and the first position is the first of
+-- all
 abbrev pub invariant-loop-part : goal.invariant-loop-part
 invariant-loop-part l = record {
   bodies : map (λ input. body_of input.body) l.bodies ++ flat_map bodies_of_section (flat_map sections_of_part (into_iter_items l.part-iterator))

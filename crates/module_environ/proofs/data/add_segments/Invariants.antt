@@ -12,7 +12,7 @@ use Rattle.module_environ.specs.Initialisers.{passive_data_from}
 use Rattle.module_environ.specs.Segments.{AreDataConvertible}
 use Rattle.module_environ.proofs.data.add_segments.Given as goal
 
--- with the segments that are left, all active ones are added and all passive ones are noted
+-- with the remaining segments, all active ones are added and all passive ones are recorded
 abbrev pub invariant-loop-segments : goal.invariant-loop-segments
 invariant-loop-segments g l =
     let left = walk_left data_segment.read segment_of segments_of_section l.segments in

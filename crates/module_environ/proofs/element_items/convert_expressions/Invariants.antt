@@ -6,7 +6,7 @@ use Rattle.module_environ.specs.Escapes.{referred}
 use Rattle.module_environ.specs.EscapeLog.{after_escapes}
 use Rattle.module_environ.proofs.element_items.convert_expressions.Given as goal
 
--- the expressions so far are converted, and their functions noted
+-- the expressions so far are converted, and their functions recorded
 abbrev pub invariant-loop-expression : goal.invariant-loop-expression
 invariant-loop-expression g l = record {
   converted : l.expressions.items

@@ -3,7 +3,7 @@ use Rattle.wasm_index.specs.Index.{number_of}
 use Rattle.module_environ.specs.EscapeLog.{after_escapes}
 use Rattle.module_environ.proofs.element_items.convert_functions.Given as goal
 
--- the functions so far are converted and noted
+-- the functions so far are converted and recorded
 abbrev pub invariant-loop-index : goal.invariant-loop-index
 invariant-loop-index l = record {
   converted : map number_of l.functions.items ≡ take l.index-index l.indices;

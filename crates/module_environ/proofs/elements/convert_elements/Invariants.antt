@@ -10,7 +10,7 @@ use Rattle.module_environ.specs.EscapeLog.{after_escapes}
 use Rattle.module_environ.specs.Segments.{AreElementsConvertible, HoldsElements}
 use Rattle.module_environ.proofs.elements.convert_elements.Given as goal
 
--- the segments that came are held, and with the functions of those that are left all are noted
+-- the segments so far are held, and with the functions of the remaining ones all are recorded
 abbrev pub invariant-loop-elements : goal.invariant-loop-elements
 invariant-loop-elements g l =
     let env = goal.TypeConvert-dyn g l.env.now in
@@ -23,6 +23,6 @@ invariant-loop-elements g l =
           ≡ after_escapes l.initial.escaping (flat_map (λ e. item_functions e.items) all);
     }
 
--- the segments that are left
+-- the remaining segments
 abbrev pub decreases-loop-elements : goal.decreases-loop-elements
 decreases-loop-elements g l = length (walk_left element_segment.read element_of elements_of_section l.elements)

@@ -8,7 +8,7 @@ use Rattle.module_environ.specs.Exported.{CanExport, exported_functions, entered
 use Rattle.module_environ.specs.EscapeLog.{after_escapes}
 use Rattle.module_environ.proofs.exports.convert_exports.Given as goal
 
--- the exports that came are entered, and with the functions of those that are left all are noted
+-- the exports so far are entered, and with the functions of the remaining ones all are recorded
 abbrev pub invariant-loop-export : goal.invariant-loop-export
 invariant-loop-export l =
     let all = flat_map exports_of_section (source_module l.source) in

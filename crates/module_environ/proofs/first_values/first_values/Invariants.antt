@@ -11,7 +11,7 @@ use Rattle.module_environ.specs.EscapeLog.{after_escapes}
 use Rattle.module_environ.specs.Initialisers.{first_values, view_first_value}
 use Rattle.module_environ.proofs.first_values.first_values.Given as goal
 
--- with what the tables that are left give, all are gathered
+-- with what the remaining tables give, all are gathered
 abbrev pub invariant-loop-table : goal.invariant-loop-table
 invariant-loop-table g l =
     let env = goal.TypeConvert-dyn g l.env.now in

@@ -14,7 +14,7 @@ use Rattle.module_environ.specs.Initialisers.{known_values, left_initialisers}
 use Rattle.module_environ.proofs.GatheredGlobals.{converted, next_initialisers}
 use Rattle.module_environ.proofs.globals.first_globals.Given as goal
 
--- with what the globals that are left give, all are gathered
+-- with what the remaining globals give, all are gathered
 abbrev pub invariant-loop-globals : goal.invariant-loop-globals
 invariant-loop-globals g l =
     let env = goal.TypeConvert-dyn g l.env.now in
@@ -30,6 +30,6 @@ invariant-loop-globals g l =
           ≡ after_escapes l.initial.escaping (flat_map (λ g. referred g.init) all);
     }
 
--- the globals that are left
+-- the remaining globals
 abbrev pub decreases-loop-globals : goal.decreases-loop-globals
 decreases-loop-globals g l = length (walk_left global_entry.read global_of globals_of_section l.globals)

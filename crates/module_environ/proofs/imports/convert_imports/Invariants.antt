@@ -6,7 +6,7 @@ use Rattle.form_lists.specs.Sections.{entries_left}
 use Rattle.module_environ.specs.Imported.{AreImported}
 use Rattle.module_environ.proofs.imports.convert_imports.Given as goal
 
--- the imports that came are converted
+-- the imports so far are converted
 abbrev pub invariant-loop-import : goal.invariant-loop-import
 invariant-loop-import l = (came : List plain.Import) × AreImported l.initial.strings came l.strings l.initializers.items l.counts
     × (came ++ entries_left import_of plain.imports_of_section l.import-iterator ≡ plain.imports (source_module l.source))

@@ -10,7 +10,7 @@ use Rattle.module_environ.specs.Metadata.{function_data, view_function}
 use Rattle.module_environ.specs.Types.{look_up_in}
 use Rattle.module_environ.proofs.metadata.function_metadata.Given as goal
 
--- with the metadata of the bodies that are left, all are there
+-- with the metadata of the remaining bodies, all are there
 abbrev pub invariant-loop-body : goal.invariant-loop-body
 invariant-loop-body g l =
     let m = module_in l.lists in

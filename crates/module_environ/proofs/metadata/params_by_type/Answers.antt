@@ -11,7 +11,7 @@ use Rattle.module_environ.proofs.AlikeFunctions.{types-known, types-alike}
 use Rattle.module_environ.proofs.Filling.{added_more}
 use Rattle.module_environ.proofs.metadata.params_by_type.Goals as goal
 
--- at the end none was left
+-- at the end none remained
 none_left : {A : Type 0} (before after : List A) (first : A) (b : Bool) → b ≡ false → Takes before first after b → before ≡ []
 none_left before after first b is takes = (subst (Takes before first after) is takes).0
 

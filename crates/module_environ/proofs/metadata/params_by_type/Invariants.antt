@@ -9,7 +9,7 @@ use Rattle.module_environ.specs.Filling.{module_in}
 use Rattle.module_environ.specs.Metadata.{KnowsParams, params_to}
 use Rattle.module_environ.proofs.metadata.params_by_type.Given as goal
 
--- with the parameters of the groups that are left, all are there
+-- with the parameters of the remaining groups, all are there
 abbrev pub invariant-loop-groups : goal.invariant-loop-groups
 invariant-loop-groups g l =
     let env = goal.TypeConvert-dyn g l.env.now in
@@ -21,6 +21,6 @@ invariant-loop-groups g l =
           ≡ map (params_to look) (types (module_in l.lists));
     }
 
--- the groups that are left
+-- the remaining groups
 abbrev pub decreases-loop-groups : goal.decreases-loop-groups
 decreases-loop-groups g l = length (walk_left group.read group_of groups_of_section l.groups)

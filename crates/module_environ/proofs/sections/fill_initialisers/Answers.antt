@@ -11,7 +11,7 @@ use Rattle.module_environ.proofs.FilledInitialisers.{on_ok, noted_all, no_images
 use Rattle.module_environ.proofs.RuledSections.{table-initialisers, global-initialisers, elements-convert, segments-convert, exports-in-range}
 use Rattle.module_environ.proofs.sections.fill_initialisers.Goals as goal
 
--- the references that are noted leave the number of functions
+-- recording references does not change the number of functions
 
 pub first_values-requires-clause-convertible : goal.first_values-requires-clause-convertible
 first_values-requires-clause-convertible g c =

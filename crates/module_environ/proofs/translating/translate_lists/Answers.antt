@@ -66,7 +66,7 @@ returns-else-not-leaves_nothing-clause-formed c =
     (e.alone) t.gains (t.built _ can)
     (omega (arith, length-map c.convert_tags.new.types.list.types interned_of, t.few)) (sym c.if-not-leaves_nothing.false ∙ c.leaves_nothing.ensures) _ refl
 
--- ---- where the builder stands
+-- ---- the state of the builder
 
 pub returns-in_err-indices-clause-stops : goal.returns-in_err-indices-clause-stops
 returns-in_err-indices-clause-stops c = λ was sound.

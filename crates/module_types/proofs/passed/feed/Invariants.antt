@@ -5,7 +5,7 @@ use Rattle.std.specs.Hash.FoldHasher as folding
 use Rattle.module_types.specs.Passed.{code_of, words_of, fed_with}
 use Rattle.module_types.proofs.passed.feed.Given as goal
 
--- the word and the types that are left are fed yet
+-- the word and the remaining types are still to be fed
 abbrev pub invariant-loop-ty : goal.invariant-loop-ty
 invariant-loop-ty l = record {
   small : l.word < 2 ^ 60;

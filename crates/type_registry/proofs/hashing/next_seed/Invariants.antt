@@ -5,7 +5,7 @@ use Rattle.std.specs.List.{flat_map, fold}
 use Rattle.type_registry.proofs.Digests.{taken, all_taken}
 use Rattle.type_registry.proofs.hashing.next_seed.Given as goal
 
--- with the types that are left it is the digest of all
+-- with the remaining types it is the digest of all
 abbrev pub invariant-loop-index : goal.invariant-loop-index
 invariant-loop-index l =
     fold write_whole l.digest (all_taken l._index-iterator) ≡ fold write_whole first_state (fed.u64 l.seed ++ flat_map taken l.types.types)

@@ -5,7 +5,8 @@ use Rattle.type_registry.specs.Keeping.{Shared, first_of}
 use Rattle.type_registry.proofs.SameNames.{same}
 use Rattle.type_registry.proofs.known.moved.Given as goal
 
--- what the new map has with the groups that are left is what the old one had, and there is room for them
+-- the new map's entries and the remaining groups are the old map's entries, and there is capacity
+-- for them
 abbrev pub invariant-loop-name : goal.invariant-loop-name
 invariant-loop-name l = record {
   rest : (q : Shared) → update_all same (first_of l.into) l.name-iterator q ≡ first_of l.fn.old q;

@@ -6,7 +6,7 @@ use Rattle.type_registry.specs.Planning.{HaveFirstFree, MayBePlannedFrom, plan}
 use Rattle.type_registry.proofs.PlanGroups.{spans_left}
 use Rattle.type_registry.proofs.planning.plan_groups.Given as goal
 
--- what is planned with the groups that are left is what is planned with all
+-- what is planned with the remaining groups is what is planned with all
 abbrev pub invariant-loop-group : goal.invariant-loop-group
 invariant-loop-group l = record {
   rest : plan_groups l.source.groups.now.groups l.source.types.now (plan l.listed l.fresh) (spans_left l._group-iterator)

@@ -4,7 +4,7 @@ use Rattle.type_registry.specs.Changes.{keep_groups}
 use Rattle.type_registry.specs.Fresh.{MayKeepAll}
 use Rattle.type_registry.proofs.registry.keep_all.Given as goal
 
--- the groups left may be kept, and what is kept with them is what is kept with all
+-- the remaining groups may be kept, and what is kept with them is what is kept with all
 abbrev pub invariant-loop-group : goal.invariant-loop-group
 invariant-loop-group l = record {
   may : MayKeepAll l.groups (into_iter_items l.group-iterator);

@@ -10,7 +10,7 @@ on-err : {T E P : Type 0} (r : Result T E) → is_err r ≡ true → OnErr r P �
 on-err (Ok v) is told = absurd (true≢false (sym is))
 on-err (Err e) is told = told
 
--- the entries are those of before
+-- the entries are unchanged
 restored : (c : goal.After-retain) → c.retain.new.self.entries ≡ c.self.inside.numbered.entries
 restored c =
     filter_same_pairs _ (is_below c.len-before.result) _ (λ k v b w f' t. search rules) c.insert_all-inserted.new.numbered.entries c.retain.new.self.entries

@@ -6,7 +6,7 @@ use Rattle.import_match.specs.Resolving.{resolved, IsAnswer}
 use Rattle.import_match.proofs.Answered.{answer-given, answer-complete, answer-missing, answer-mismatch, answer-of_import}
 use Rattle.import_match.proofs.linker.Linker.resolve.Goals as goal
 
--- the answer over the definitions that the caller sees
+-- the result over the definitions that the caller sees
 answer : (c : goal.After-resolve_imports) → IsAnswer c.resolve_imports.result (resolved c.args.self.now (wanted c.args.registry.now c.args.key c.args.module.now))
 answer c = subst (λ ds. IsAnswer c.resolve_imports.result (resolved ds (wanted c.args.registry.now c.args.key c.args.module.now))) c.self.view_is c.resolve_imports.ensures
 

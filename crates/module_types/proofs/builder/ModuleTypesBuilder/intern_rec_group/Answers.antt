@@ -23,7 +23,7 @@ push_group-requires-clause-can c =
       named = coe 0 1 (j. NamesInterned c.args.types.now (builder_view (back j)) c.args.id.0) c.requires.named;
     }
 
--- there is room for the group
+-- there is capacity for the group
 opens : (t : TypesData) (k : ℕ) (s now : BuilderState) → s ≡ now → None ≡ noted_at s.ids k → s.is_poisoned ≡ false
     → (now.is_poisoned ≡ false → length (interns (builder_view now) k (interned_members t (builder_view now) k)).built.types < 4294967295)
     → length (with_group (builder_view s).built (interned_members t (builder_view s) k)).types < 4294967295

@@ -35,7 +35,7 @@ returns-in-Known-clause-built c =
 pub returns-in-Known-clause-found : goal.returns-in-Known-clause-found
 returns-in-Known-clause-found c = grind (arith, common_steps)
 
--- a type that is its own mapped type is noted at its index
+-- a type that is its own mapped type is recorded at its index
 module _ (i : Interner) (found : FindsMet i) (ty : TypeIndex) (x : WasmSubType) (read : slice_get i.list.types (number_of ty) ≡ Some x) (f : WasmFuncType)
     (is : x.composite_type.inner ≡ inner.Func f) (digest : ℕ) (own : IsTrampoline (known i) i.met.hasher f (Itself digest)) (l : TypeList) (set : l ≡ called_by i.list (number_of ty) ty)
     (met : MetTypes) (noted : (ts : List WasmSubType) (g : WasmFuncType) → IsLinked ts i.met → part_at func_in ts ty ≡ Some g → digest ≡ digest_of i.met.hasher g → IsNoted ts i.met met g ty) where

@@ -21,11 +21,11 @@ use Rattle.module_types.proofs.Chaining.{part-at-end}
 use Rattle.module_types.proofs.Steps.{next-is, noted-is}
 use Rattle.module_types.proofs.interner.Interner.push_trampoline.Goals as goal
 
--- where the list stands still
+-- where the list is unchanged
 pub push_alone-requires-clause-sound : goal.push_alone-requires-clause-sound
 push_alone-requires-clause-sound c = record { orderly = grind (arith, common_steps); found = grind (arith, common_steps) }
 
--- what follows once the type is noted
+-- what follows once the type is recorded
 module _ (i now : Interner) (met : MetTypes) (ty : ℕ) (k : TypeIndex) (mapped : WasmFuncType) (digest : ℕ) (own : trampoline_of mapped ≡ mapped)
     (l : TypeList) (set : l ≡ called_by i.list ty k) (count : k ≡ index_of (length i.list.types)) (is : digest ≡ digest_of i.met.hasher mapped)
     (t : WasmSubType) (plain_is : interned_of t ≡ plain (Func (called_of mapped))) (func_is : func_in t.composite_type.inner ≡ Some mapped)

@@ -3,7 +3,7 @@ use Rattle.wasm_types.specs.Trampolines.{trampoline_of}
 use Rattle.module_types.specs.Met.{digest_of, mets, Leads}
 use Rattle.module_types.proofs.met.MetTypes.find.Given as goal
 
--- what is left of the chain leads to the type wherever it is
+-- the rest of the chain leads to the type wherever it is
 abbrev pub invariant-loop-left : goal.invariant-loop-left
 invariant-loop-left l =
     let rs = mets l.list.types l.self.types.items in

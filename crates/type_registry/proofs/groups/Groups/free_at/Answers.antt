@@ -9,7 +9,7 @@ use Rattle.type_registry.proofs.groups.Groups.free_at.Goals as goal
 rank : (c : In-Some) → free_below (indices_of c.args.self.now.groups) c.in-Some.number ≡ c.args.rank
 rank c = nth-rank c.self.invariant (ap (λ s. s.groups) c.self.view_is) c.in-Some.number c.args.rank c.in-Some.ensures.free c.in-Some.ensures.rank
 
--- where none of those with room is so, one past them is
+-- where no index within the capacity is so, the one after the capacity is
 abbrev past : After-len → ℕ
 past c = c.len.result + (c.args.rank - c.len_free.result)
 

@@ -25,7 +25,7 @@ keep_planned-requires-clause-may c = grind (arith, planned-new, may-keep-all, ne
 pub keep_planned-requires-clause-few : goal.keep_planned-requires-clause-few
 keep_planned-requires-clause-few c = grind (arith, fresh-counted)
 
--- the registry after
+-- the registry afterwards
 abbrev after : goal.After-self-2-1 → RegistryState
 after c = record (seen.the_view c.self.inside) {
   registrations = c.self.inside.registrations + 1;
@@ -97,7 +97,7 @@ returns-clause-indices c = λ k i held.
 pub returns-clause-live : goal.returns-clause-live
 returns-clause-live c = live-held (registry_of (after c)) (balanced c)
 
--- a refusal leaves the registry as it was
+-- a call that is refused does not change the registry
 
 pub returns-then-self-clause-live : goal.returns-then-self-clause-live
 returns-then-self-clause-live c =

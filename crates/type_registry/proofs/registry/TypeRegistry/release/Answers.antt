@@ -9,7 +9,7 @@ use Rattle.type_registry.proofs.Counting.{counted-left}
 use Rattle.type_registry.proofs.Leaving.{left_short}
 use Rattle.type_registry.proofs.registry.TypeRegistry.release.Goals as goal
 
--- the registry after
+-- the registry afterwards
 abbrev after : goal.After-drop-held-inside-2 → RegistryState
 after c = record (seen.the_view c.self.inside) { modules = c.remove.new.self.entries; groups = c.leave_all.new.groups.groups }
 
