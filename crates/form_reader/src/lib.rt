@@ -45,7 +45,7 @@ mod type_indices;
 mod value_types;
 mod vectors;
 
-pub use contents::next_order;
+pub use contents::{next_order, order_of};
 pub use cursor::Cursor;
 pub use customs::InputCustoms;
 pub use error::ReadError;
