@@ -12,7 +12,7 @@ use Rattle.wasm_spec.specs.Module.{Module, Types, Imports, imports, imports_of_s
 use Rattle.form_data.specs.declared.form.Counts.{Counts}
 use Rattle.form_data.specs.Counted.{counts_of, HasRoom, CountsMore}
 
--- each index space of the whole is as long as those of two parts
+-- each index space of the complete module is as long as those of two parts together
 pub record Joins (whole one other : Module) : Type 0 where
   pub types : length (types whole) ≡ length (types one) + length (types other)
   pub functions : length (functions whole) ≡ length (functions one) + length (functions other)
@@ -109,7 +109,7 @@ CountsMore-both a b c whole one other j ab bc = record {
   tags = omega (arith, j.tags, ab.tags, bc.tags);
 }
 
--- there is room for the second of three parts
+-- the sizes fit in 32 bits with the second of three parts
 HasRoom-next : (a b : Counts) (whole one rest other last : Module) → Joins whole one rest → Joins rest other last → HasRoom a whole
     → CountsMore a b one → HasRoom b other
 HasRoom-next a b whole one rest other last j k room ab = record {
@@ -143,7 +143,7 @@ module _ {X Y : Type 0} (item_of : X → Y) (made : List Y → Module) (join : (
       HasRoom-next a b _ _ _ _ _ (join front ((item_of x ∷ []) ++ back)) (join (item_of x ∷ []) back)
       (subst (λ (ys : List Y). HasRoom a (made ys)) parts room) ab
 
--- ---- counting of a whole module
+-- ---- counting of a complete module
 
 abbrev pub no_entries : Counts
 no_entries = counts_of []
@@ -161,7 +161,7 @@ HasRoom-few m few = record {
 abbrev counts : ℕ → ℕ → ℕ → ℕ → ℕ → ℕ → Counts
 counts a b c d e f = record { types = a; functions = b; tables = c; memories = d; globals = e; tags = f }
 
--- what is counted from nothing are the sizes of the whole
+-- counts that begin at zero are the sizes of the complete module
 pub counted : (all : Counts) (m : Module) → CountsMore no_entries all m → all ≡ counts_of m
 counted all m more =
     let whole = counts_of m in

@@ -16,7 +16,7 @@ counts_of m = record {
 
 -- ---- while they are counted
 
--- there are numbers for the entries of these sections too
+-- the sizes fit in 32 bits with the entries of these sections too
 pub record HasRoom (old : Counts) (m : Module) : Type 0 where
   pub types : old.types + length (types m) < 2 ^ 32
   pub functions : old.functions + length (functions m) < 2 ^ 32

@@ -2,7 +2,7 @@
 //! the order of the file.
 //!
 //! A `Form` borrows the input: names, bodies and data are slices of its bytes. Its view `module_of`
-//! is the plain module of which the grammar speaks. `counts` has the exact sizes of the index
+//! is the plain module that the grammar refers to. `counts` has the exact sizes of the index
 //! spaces.
 //!
 //! ```

@@ -1,4 +1,4 @@
--- What holds of each entry, where the entries stand in sections.
+-- What holds of each entry, where the entries are in sections.
 use Rattle.std.proofs.Common.{◌≡◌, ◌↔◌, ℕ, Bool, true, false, List, [], ◌++◌, All, IsTrue, refl, sym, ap, subst, ◌∙◌}
 use Rattle.std.proofs.lemmas.List.Concat.{flat_map-append}
 use Rattle.std.specs.List.{flat_map}
@@ -11,12 +11,13 @@ use Rattle.form_types.proofs.AllOf.{All-joined}
 
 -- ---- loops over the sections, and over the entries of all sections
 
--- at the beginning all sections are left
+-- at the beginning all sections remain
 pub left_parts : {X : Type 0} (P : X → Type 0) (f : plain.Payload → List X) (left all : plain.Module) → left ≡ all
     → All P (flat_map f left) ↔ All P (flat_map f all)
 left_parts P f left all at = subst (λ (ps : plain.Module). All P (flat_map f ps) ↔ All P (flat_map f all)) (sym at) (λ here. here, λ here. here)
 
--- W is that all entries hold: while those of each section have held so far, it is that those of the sections hold which are left
+-- W says that all entries hold. While those of each section have held so far, W holds exactly where
+-- those of the remaining sections hold
 module _ {X : Type 0} (P : X → Type 0) (f : plain.Payload → List X) (W : Type 0) (left ps rest : plain.Module) (at : left ≡ ps ++ rest)
     (tells : All P (flat_map f left) ↔ W) where
   split : All P (flat_map f left) ↔ (All P (flat_map f ps) × All P (flat_map f rest))
@@ -33,7 +34,7 @@ module _ {X : Type 0} (P : X → Type 0) (f : plain.Payload → List X) (W : Typ
     fails : IsTrue b → ⊥
     fails holds = absurd cc
 
--- a run of custom sections has no entries of which anything is asked
+-- a run of custom sections has no entries that are checked
 pub customs_hold : {X : Type 0} (P : X → Type 0) (f : plain.Payload → List X) → ((name bytes : List ℕ) → f (plain.Custom name bytes) ≡ [])
     → (run : InputCustoms) → IsTrue true ↔ All P (flat_map f (customs_in run))
 customs_hold P f none run = (λ t. All-same P (flat_map f (customs_in run)) [] (none_listed f none run) (All-nil P), λ all. refl)

@@ -44,7 +44,7 @@ AddsImports-then a b c is js first second = record {
   tags = grown _ _ _ _ _ _ first.tags second.tags (filter_map-append (λ (i : plain.Import). tag_import i.type) is js);
 }
 
--- one import more of those that are left
+-- one import more of the remaining ones
 pub AddsImports-more : (a b c : Spaces) (i : plain.Import) (left rest all : List plain.Import) → left ≡ i ∷ rest → AddsImports b c (i ∷ [])
     → ((d : Spaces) → AddsImports b d left → AddsImports a d all) → (d : Spaces) → AddsImports c d rest → AddsImports a d all
 AddsImports-more a b c i left rest all at added before d others =
@@ -81,7 +81,7 @@ pub types_of_globals : (gs : List GlobalDef) → map (λ (g : plain.GlobalDef). 
 types_of_globals [] = refl
 types_of_globals (g ∷ gs) = ap (λ (us : List GlobalType). g.ty ∷ us) (types_of_globals gs)
 
--- some sections more of those that are left
+-- some sections more of the remaining ones
 pub AddsDefined-more : (a b c : Spaces) (ps left rest all : plain.Module) → left ≡ ps ++ rest → AddsDefined b c ps
     → ((d : Spaces) → AddsDefined b d left → AddsDefined a d all) → (d : Spaces) → AddsDefined c d rest → AddsDefined a d all
 AddsDefined-more a b c ps left rest all at added before d others =

@@ -1,4 +1,5 @@
--- What is asked of the kind of a declared type, where the answer does not depend on what references name.
+-- Functions of the kind of a declared type, where the result does not depend on what references
+-- name.
 use Rattle.std.proofs.Common.{◌≡◌, ◌↔◌, ◌∙◌, Option, Some, None, refl, sym, ap, subst}
 use Rattle.std.specs.Prelude.{IsSomeAnd}
 use Rattle.std.specs.Option.{option_map}
@@ -14,7 +15,7 @@ like : (k : Kind) (o : Option Kind) → Some (unnamed k) ≡ option_map unnamed 
 like k None same = absurd cc
 like k (Some declared) same = (declared, refl, cc)
 
--- what is asked of it is answered by the declared one
+-- a function of it has the same result for the declared one
 pub asked : {A : Type 0} (f : Kind → A) → ((k : Kind) → f (unnamed k) ≡ f k) → (k : Kind) (o : Option Kind) → Some (unnamed k) ≡ option_map unnamed o
     → Some (f k) ≡ option_map f o
 asked {A = A} f alone k o same =

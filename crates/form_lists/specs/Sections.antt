@@ -10,11 +10,12 @@ use Rattle.form_reader.specs.Input.{input_payload_of}
 use Rattle.form_lists.specs.Source.{sections_left}
 use Rattle.form_lists.specs.declared.sections.Entries.{Entries}
 
--- what a walk has left: the rest of the section in which it stands, and the sections after that
+-- what remains of a walk: the rest of the current section, and the sections after that
 unfoldable pub entries_left : {T X : Type 0} → (T → X) → (plain.Payload → List X) → Entries T → List X
 entries_left seen of_section walk = map seen walk.entries.now ++ flat_map of_section (sections_left walk.sections)
 
--- what no section lists that may stay in the input is listed by none that does
+-- where the kinds of sections that may stay in the input list no entries of a kind, no section that
+-- stays in the input lists any
 pub none_in_input : {X : Type 0} (f : plain.Payload → List X)
     → ((groups : List (Group UnpackedIndex UnpackedIndex)) → f (plain.Types groups) ≡ []) → ((types : List ℕ) → f (plain.FunctionTypes types) ≡ [])
     → ((types : List ℕ) → f (plain.Tags types) ≡ []) → ((globals : List plain.GlobalDef) → f (plain.Globals globals) ≡ [])

@@ -13,6 +13,6 @@ single_of (single.Read payload) = payload_of payload.now
 single_of (single.Input entries) = input_payload_of entries
 single_of (single.Custom name bytes) = plain.Custom name.now bytes.now
 
--- what a walk has left: the rest of the run in which it stands, and the sections after that
+-- what remains of a walk: the rest of the current run, and the sections after that
 unfoldable pub singles_left : Singles → List plain.Payload
 singles_left walk = customs_in walk.run ++ sections_left walk.sections

@@ -21,7 +21,7 @@ sections_in (section.Read payload) = payload_of payload.now ∷ []
 sections_in (section.Input entries) = input_payload_of entries ∷ []
 sections_in (section.Customs run) = customs_in run
 
--- the sections that a walk has left, and the steps
+-- the sections that remain of a walk, and the steps
 unfoldable pub sections_left : Sections → List plain.Payload
 sections_left (sections.Form payloads) = map payload_of payloads.now
 sections_left (sections.Input parts) = flat_map sections_of_part parts.now
@@ -30,7 +30,7 @@ abbrev pub steps_left : Sections → ℕ
 steps_left (sections.Form payloads) = length payloads.now
 steps_left (sections.Input parts) = length parts.now
 
--- a step gave the first of what was left and left the others, or nothing was left
+-- a step gave the first of what remained, and the others remain; or nothing remained
 abbrev pub GivesFirst : Sections → Option Section → Sections → Type 0
 GivesFirst old given new =
     MatchOption given ((sections_left old ≡ []) × (sections_left new ≡ [])) (λ section. sections_left old ≡ sections_in section ++ sections_left new)

@@ -1,4 +1,4 @@
-//! The lists of a module of which the rules speak.
+//! The lists of a module that the rules refer to.
 
 ghost use Rattle.std.specs.Prelude.{◌≡◌, []};
 ghost use Rattle.std.specs.Option.{option_map};
@@ -37,8 +37,8 @@ pub struct Lists<'f, 'd> {
 }
 
 impl<'f, 'd> Lists<'f, 'd> {
-    /// The same lists without the types; `source` is the module again, which may be lent for longer
-    /// than the types are.
+    /// The same lists without the types; `source` is the module again, which may be borrowed for
+    /// longer than the types are.
     pub fn without_types<'s>(self, source: Source<'s, 'd>) -> Lists<'s, 'd>
         requires { source ≡ self.source }
         ensures lists { lists_of result ≡ record (lists_of self.entry) { types = [] } }

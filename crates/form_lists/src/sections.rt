@@ -13,7 +13,7 @@ ghost use Rattle.form_lists.specs.Sections.{entries_left, none_in_input};
 use crate::source::{Section, Sections, Source, sections_of};
 use form_data::{Export, FunctionBody, Import, Payload, TableDef};
 
-/// What sections of one kind list, and never stays in the input.
+/// An entry that sections of one kind list, and that never stays in the input.
 pub trait Entry<'d>: Sized {
     ghost Seen: { Type 0 };
 
@@ -30,7 +30,8 @@ pub trait Entry<'d>: Sized {
     ghost no_customs: { (name bytes : List ℕ) → of_section (plain.Custom name bytes) ≡ [] };
 }
 
-/// The entries of a section; those that stay in the input have none, nor have custom sections.
+/// The entries of a section. Sections that stay in the input have none, and neither have custom
+/// sections.
 #[inline]
 pub(crate) fn entries_in<'f, 'd, T: Entry<'d>>(section: Section<'f, 'd>) -> &'f [T]
     ensures { map T.seen result.now ≡ flat_map T.of_section (sections_in section.entry) }

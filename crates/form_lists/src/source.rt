@@ -22,7 +22,7 @@ pub enum Section<'f, 'd> {
     Read(&'f Payload<'d>),
     /// Its entries stay in the input.
     Input(InputEntries<'d>),
-    /// Custom sections with no other one between them, which stay in the input.
+    /// Custom sections with no other section between them, which stay in the input.
     Customs(InputCustoms<'d>),
 }
 

@@ -15,13 +15,13 @@ use std::alloc::{AllocError, Global};
 pub struct Walk<'f, 'd, E> {
     alloc: Global,
     sections: Sections<'f, 'd>,
-    /// What the section in which it stands has left: of entries in a list, or of those that stay in
-    /// the input.
+    /// The remaining entries of the current section: those in a list, or those that stay in the
+    /// input.
     listed: &'f [E],
     input: InputVector<'d>,
-    /// The entry at which it stands, where a form lists it.
+    /// The current entry, where a form lists it.
     standing: Option<&'f E>,
-    /// That entry, where it stays in the input: a copy, whose lists are used again.
+    /// The current entry, where it stays in the input: a copy, whose lists are reused.
     read: E,
 }
 
@@ -57,7 +57,7 @@ fn entries_here<'f, 'd, E: InputEntry<'d, Value = E>>(
 }
 
 impl<'f, 'd, E: InputEntry<'d, Value = E>> Walk<'f, 'd, E> {
-    /// Goes on to the next entry; after the last there is none.
+    /// Advances to the next entry; after the last there is none.
     #[tactic(auto, unfolding(crate::specs::Walk::walk_left))]
     pub fn advance(&mut self) -> Result<bool, AllocError>
         ensures { IfOk result
@@ -74,7 +74,7 @@ impl<'f, 'd, E: InputEntry<'d, Value = E>> Walk<'f, 'd, E> {
         Ok(true)
     }
 
-    /// Goes on to the next entry of the section, if there is one.
+    /// Advances to the next entry of the section, if there is one.
     fn advance_here(&mut self) -> Result<bool, AllocError>
         ensures takes { IfOk result
             (Takes (left_here E.form E.view self.old) (standing E.view self.new) (left_here E.form E.view self.new)) }
@@ -89,7 +89,7 @@ impl<'f, 'd, E: InputEntry<'d, Value = E>> Walk<'f, 'd, E> {
         self.input.next_into::<E>(self.alloc, &mut self.read)
     }
 
-    /// The entry at which the walk stands.
+    /// The current entry of the walk.
     pub fn entry(&self) -> &E
         ensures { E.view result.now ≡ standing E.view self.now }
     {

@@ -1,4 +1,5 @@
--- Sections, as far as they are taken: of custom sections those that are none of interface types.
+-- Sections, as far as they are supported: of custom sections those that are none of interface
+-- types.
 use Rattle.std.proofs.Common.{◌≡◌, ℕ, List, [], ◌∷◌, ◌++◌, Option, Bool, true, false, refl, ap, subst, sym, ◌∙◌, append_assoc, inl, inr}
 use Rattle.std.specs.Prelude.{◌⊎◌, ◌==◌}
 use Rattle.wasm_spec.specs.declared.operators.What.{What}
@@ -68,7 +69,7 @@ section_into : (P : Payload → Type 0) (W : What → Type 0) (g h : List ℕ �
 section_into P W g h i place next = first_into P W _ _ (λ id. either_into P W (id == 0) _ _ _
     (then_into P W _ _ _ (λ size. filled_into P W size _ _ (then_into P W _ _ _ i))))
 
--- ---- sections that are taken
+-- ---- sections that are supported
 
 abbrev section_taken : ℕ → ℕ → Part Payload
 section_taken place next = section_by custom_taken place next
@@ -80,7 +81,7 @@ from_grammar : (place next : ℕ) → Into IsNoInterface (λ w. Unit {0}) (gramm
 from_grammar = section_into _ _ grammar.custom_after custom_taken
     (λ n. record { spelled = λ bytes p none e. (e, let Q : Payload → Type 0 = IsNoInterface in subst Q e none); stopped = λ bytes w u s. s })
 
--- what is taken is spelled, and holds no interface types
+-- what is supported is spelled, and holds no interface types
 pub taken_spells : (place next : ℕ) (bytes : List ℕ) (p : Payload) → (section_taken place next).spells bytes p
     → (grammar.section place next).spells bytes p × IsNoInterface p
 taken_spells place next [] p s = absurd s

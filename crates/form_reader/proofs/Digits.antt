@@ -13,11 +13,11 @@ begun sum weight last rest = (record { sum = sum; weight = weight; last = last }
 sum-cons : (s w b n : ℕ) → s + w * (b + 128 * n) ≡ (s + b * w) + (w * 128) * n
 sum-cons s w b n = omega arith
 
--- what the bytes p.0 make of a number that was begun
+-- what the bytes p.0 make of a partially read number
 abbrev pub after : ℕ → ℕ → ℕ → List ℕ × List ℕ → Found × List ℕ
 after sum weight last p = (record { sum = sum + weight * sevens p.0; weight = weight * 128 ^ length p.0; last = last_or last p.0 }, p.1)
 
--- what at most k more bytes make of a number that was begun
+-- what at most k more bytes make of a partially read number
 abbrev pub remaining : ℕ → ℕ → ℕ → ℕ → List ℕ → Option (Found × List ℕ)
 remaining sum weight last k bytes = option_map (after sum weight last) (number_bytes k bytes)
 

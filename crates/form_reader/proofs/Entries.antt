@@ -157,7 +157,7 @@ member_wide : CountsBytes member (first_byte sub_type_after)
 member_wide [] x s = absurd s
 member_wide (b ∷ bytes) x s = let n = sub_type_wide b bytes x s in omega (arith, n)
 
--- a group takes a byte beside its members
+-- a group takes a byte in addition to its members
 group_wide : CountsBytes (λ g. 1 + total member g) group
 group_wide [] g s = absurd s
 group_wide (b ∷ bytes) g s = by_first (b == 0x4E) s where

@@ -1,4 +1,4 @@
--- Groups of types that are taken, section after section.
+-- Groups of types that a taker takes, section after section.
 use Rattle.std.proofs.Common.{List, [], ◌++◌, sym, subst, ap, ◌∙◌, append_assoc}
 use Rattle.std.proofs.lemmas.List.{append-nil}
 use Rattle.std.proofs.lemmas.Grind.{flat_map-append}

@@ -1,4 +1,4 @@
--- Entries that stay in the input: what a loop passes over is what is listed, and how the first is taken.
+-- Entries that stay in the input: what a loop reads is what is listed, and how the first is taken.
 use Rattle.std.proofs.Common.{◌≡◌, ℕ, zero, suc, ◌+◌, ◌-◌, ◌<◌, ◌≤◌, List, [], ◌∷◌, ◌++◌, length, Result, Ok, Err, refl, sym, ap, subst, ◌∙◌, arith}
 use Rattle.form_reader.specs.Reading.{Reader, Fails, and_then, Fault, Bad, Stops, elements_at}
 use Rattle.form_reader.specs.declared.error.ReadError.{ReadError}
@@ -6,7 +6,7 @@ use Rattle.form_reader.specs.declared.error.ReadError.TheVariants as errors
 use Rattle.form_reader.specs.Input.{listed, listed_after}
 use Rattle.form_reader.proofs.Loop.{with_front, all_so_far, one_more, all_read}
 
--- some entries were read, and these bytes are left
+-- some entries were read, and these bytes remain
 pub record SoFar {A : Type 0} (read : Reader A) (n i : ℕ) (start now : List ℕ) : Type 0 where
   pub front : List A
   pub so_far : with_front front (elements_at read (n - i) now) ≡ elements_at read n start
@@ -16,7 +16,7 @@ pub record HoldsSoFar {A : Type 0} (read : Reader A) (n i : ℕ) (start now : Li
   pub so_far : SoFar read n i start now
   pub holds : T so_far.front
 
--- the error is one of the bytes
+-- the error is in the bytes, not in memory
 abbrev pub IsFault : ReadError → Type 0
 IsFault errors.OutOfMemory = ⊥
 IsFault _ = Unit {0}
@@ -77,7 +77,7 @@ module _ {A : Type 0} (read : Reader A) where
   pub holds_at_end : (n i : ℕ) (start now : List ℕ) (T : List A → Type 0) → n ≤ i → HoldsSoFar read n i start now T → T (listed read n start)
   holds_at_end n i start now T l s = subst T (front_listed n i start now l s.so_far) s.holds
 
-  -- ---- how many they are
+  -- ---- how many there are
 
   few_after : (n : ℕ) → ((bytes : List ℕ) → length (listed read n bytes) ≤ n) → (r : Result (A × List ℕ) Fault)
       → length (listed_after r (listed read n)) ≤ suc n

@@ -5,7 +5,7 @@ use Rattle.form_reader.specs.Reading.{Reader, Fails, and_then, Fault, Bad, Stops
 use Rattle.form_reader.specs.declared.error.ReadError.{ReadError}
 use Rattle.form_reader.specs.declared.error.ReadError.TheVariants as errors
 
--- what was read before, and what is still read
+-- what was read before, and what remains to be read
 abbrev pub with_front : {A : Type 0} → List A → Result (List A × List ℕ) Fault → Result (List A × List ℕ) Fault
 with_front front read = and_then read (λ x. Ok (front ++ x.0, x.1))
 

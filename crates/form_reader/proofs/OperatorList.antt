@@ -14,7 +14,7 @@ use Rattle.form_reader.proofs.Loop.{with_front, regroup}
 
 module _ (front : Expression) (n i : ℕ) (bytes : List ℕ) (total : Result (Expression × List ℕ) Fault)
     (so_far : with_front front (operators_at (n - i) bytes) ≡ total) where
-  -- one more step is left
+  -- one more step remains
   next : i < n → with_front front (operators_at (suc (n - (i + 1))) bytes) ≡ total
   next l = let k : n - i ≡ suc (n - (i + 1)) = omega arith in sym (rw k refl) ∙ so_far
 

@@ -31,7 +31,7 @@ one_agrees place next = measured_agrees (section place next).agrees
 abbrev later_at : ℕ → ℕ → ℕ → (Payload × ℕ) × List ℕ → Result Module Fault
 later_at k place next p = and_then (sections_at k (place + p.0.1) (next_order next p.0.0) p.1) (λ ps. Ok (p.0.0 ∷ ps))
 
--- some sections, and then one that may stand next and that stops
+-- some sections, and then one that may come next and that stops
 record StopFrom (place next : ℕ) (bytes : List ℕ) (w : What) : Type 0 where
   before : Module
   front : List ℕ
@@ -224,7 +224,7 @@ no_module v u rest = elim (cases_Bool (starts_with nat_eq (magic ++ v ∷ u ∷ 
   | inr f ↦ f
 ]
 
--- what reading a module comes to, where the header is that of no module
+-- the result of reading a module, where the header is that of no module
 component : Bool → Result Module Fault
 component t = cond t (Err (Stops what.Component)) (Err Bad)
 

@@ -1,4 +1,4 @@
--- A reader and a part of the grammar say the same; and the ways in which readers join keep this.
+-- A reader and a part of the grammar say the same; and the ways to combine readers preserve this.
 use Rattle.std.proofs.Common.{◌≡◌, ℕ, zero, suc, ◌≤◌, List, [], ◌∷◌, ◌++◌, length, take, drop, Option, Some, None, Result, Ok, Err, Bool, true, false, cond, ltb, eqb, refl, sym, ap, subst, ◌∙◌, append_assoc, arith, inl, inr}
 use Rattle.std.specs.Prelude.{◌⊎◌, IsTrue}
 use Rattle.std.proofs.lemmas.Bool.{le-ltb, ltb-false, eqb-true}
@@ -73,7 +73,7 @@ pub test_not_stops : {A : Type 0} (test : Bool) (x : A) (what : What) → cond t
 test_not_stops true x what e = absurd cc
 test_not_stops false x what e = absurd cc
 
--- ---- the least parts
+-- ---- the basic parts
 
 pub gives_agrees : {A : Type 0} (x : A) → Agrees (gives_at x) (part.gives x)
 gives_agrees {A} x = record {
@@ -187,13 +187,13 @@ pub choose_agrees : {A : Type 0} {p q : Reader A} {g h : Part A} (test : Bool) �
 choose_agrees true a b = a
 choose_agrees false a b = b
 
--- what a value asks for, where there is one
+-- what a value selects, where there is a value
 pub given_agrees : {A B : Type 0} {p : A → Reader B} {q : Reader B} {g : A → Part B} {h : Part B} (o : Option A)
     → ((x : A) → Agrees (p x) (g x)) → Agrees q h → Agrees (given_at o p q) (part.given o g h)
 given_agrees (Some x) a b = a x
 given_agrees None a b = b
 
--- the first is asked for only where the test passes, and the second where it fails
+-- the first is needed only where the test passes, and the second where it fails
 pub optional_agrees : {A : Type 0} {p : Reader A} {g : Part A} (test : Bool) → Agrees p g → Agrees (optional_at test p) (part.optional test g)
 optional_agrees true a = then_agrees a (λ x. gives_agrees (Some x))
 optional_agrees false a = gives_agrees None
@@ -260,7 +260,7 @@ first_byte_agrees {A} {p} {g} a = record {
       first_stops_again p g a;
 }
 
--- a byte that says what begins with it, which is never nothing
+-- a byte that says what begins with it, where what begins with it is never empty
 module _ {A : Type 0} (p : ℕ → Reader A) (g : ℕ → Part A) (a : (b : ℕ) → Agrees (p b) (g b)) (filled : (b : ℕ) (y : A) → ¬ (g b).spells [] y) where
   next_spells : (b : ℕ) (bytes front rest : List ℕ) (y : A) → b ∷ bytes ≡ front ++ rest → (g b).spells front y → part.NextSpells g front y
   next_spells b bytes [] rest y e s = absurd (filled b y s)
@@ -345,7 +345,7 @@ all_bytes_fill f = record {
   stops_again = λ bytes what s. absurd s;
 }
 
--- nothing is left
+-- no byte remains
 module _ {A : Type 0} (p : Reader A) (g : Part A) (a : Agrees p g) where
   whole_found : (bytes : List ℕ) (x : A) → whole p bytes ≡ Ok x → g.spells bytes x
   unfolding whole

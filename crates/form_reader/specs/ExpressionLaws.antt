@@ -109,7 +109,7 @@ steps_spell (suc k) (b ∷ bytes) ops s = by_test (λ l m t. steps_spell k l m t
             elements_cons grammar.operator s.value later.value f i.front s.is_first i.are_operators;
       })
 
--- what the first byte asks for, where it is not the end mark
+-- what the first byte selects, where it is not the end mark
 go_on : (k b : ℕ) (bytes : List ℕ) (ops : Expression) → (b == 0x0B) ≡ false → (step (steps k) b false).spells bytes ops
     → (steps (suc k)).spells (b ∷ bytes) ops
 go_on k b bytes ops e s = let P : Bool → Type 0 = λ t. (step (steps k) b t).spells bytes ops in subst P (sym e) s

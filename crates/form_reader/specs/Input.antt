@@ -61,15 +61,15 @@ sections_of_part (parts.Section section) = input_section_of section ∷ []
 abbrev pub input_module_of : InputForm → plain.Module
 input_module_of form = flat_map sections_of_part form.parts.items
 
--- some groups of types were taken, or none
+-- a taker took some groups of types, or none
 abbrev pub HasTaken : {T : Type 0} → (T → List (Group UnpackedIndex UnpackedIndex) → Type 0) → T → Type 0
 HasTaken took taker = (groups : List (Group UnpackedIndex UnpackedIndex)) × took taker groups
 
--- what took some groups of types takes these as well, one after another
+-- a taker that took some groups of types takes these as well, one after another
 abbrev pub TakesGroups : {T : Type 0} → (T → List (Group UnpackedIndex UnpackedIndex) → Type 0) → T → T → List (Group UnpackedIndex UnpackedIndex) → Type 0
 TakesGroups took old new groups = (before : List (Group UnpackedIndex UnpackedIndex)) → took old before → took new (before ++ groups)
 
--- the first of some entries is taken and the others are left, or there is none
+-- the first of some entries is removed and the others remain, or there is none
 abbrev pub Takes : {A : Type 0} → List A → A → List A → Bool → Type 0
 Takes before first after true = before ≡ first ∷ after
 Takes before first after false = (before ≡ []) × (after ≡ [])

@@ -1,4 +1,4 @@
--- Contents that fill a size, made into a value; and values with the number of their bytes.
+-- Contents that fill a size, converted to a value; and values with the number of their bytes.
 use Rattle.std.proofs.Common.{◌≡◌, ℕ, ◌-◌, List, ◌++◌, length, Result, Ok, Err, Bool, true, false, cond, eqb, refl, ap, subst, arith, inl, inr}
 use Rattle.std.proofs.lemmas.List.{length-append}
 use Rattle.wasm_spec.specs.declared.operators.What.{What}
@@ -9,7 +9,7 @@ use Rattle.form_reader.specs.ReadingNumbers.{counted_bytes_at, sized_at}
 use Rattle.form_reader.specs.Agrees.{Agrees, ok, ok_is, ok_not_err, step_ok, step_err, same_agrees, gives_agrees, then_agrees, whole_fills, filled_agrees}
 use Rattle.form_reader.specs.NumberLaws.{sized_agrees}
 
--- ---- contents made into a value, outside or inside
+-- ---- contents converted to a value, outside or inside
 
 module _ {A B : Type 0} (p : Reader A) (make : A → B) where
   -- contents of the bytes that were split off

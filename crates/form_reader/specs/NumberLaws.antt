@@ -151,7 +151,7 @@ module _ (k : ℕ) where
 
 -- ---- signed numbers that are not negative
 
--- the sum is below 128 to the number of bytes
+-- the sum is below 128 to the power of the number of bytes
 sevens_below : (bytes : List ℕ) → sevens bytes < 128 ^ length bytes
 sevens_below [] = omega arith
 sevens_below (b ∷ bs) =

@@ -14,7 +14,7 @@ pub data Fault : Type 0 where
 abbrev pub Reader : Type 0 → Type 0
 Reader A = List ℕ → Result (A × List ℕ) Fault
 
--- the value of all of some bytes
+-- the value of a complete list of bytes
 abbrev pub Filler : Type 0 → Type 0
 Filler A = List ℕ → Result A Fault
 
@@ -32,7 +32,7 @@ Fails (errors.Unsupported what) read = read ≡ Err (Stops what)
 Fails errors.TooLarge read = ⊥
 Fails errors.OutOfMemory read = Unit {0}
 
--- what a function returned, seen by a view, is what is read, unless memory ran out
+-- what a function returned, mapped by a view, is what is read, unless memory ran out
 abbrev pub Gives : {A B : Type 0} → (A → B) → Result A ReadError → Result B Fault → Type 0
 Gives view (Ok x) read = read ≡ Ok (view x)
 Gives view (Err e) read = Fails e read
@@ -46,7 +46,7 @@ abbrev pub ByteRead : List ℕ → List ℕ → Result ℕ ReadError → Type 0
 ByteRead old new (Ok b) = Some (b, new) ≡ uncons old
 ByteRead old new (Err e) = (e ≡ errors.Malformed) × (None ≡ uncons old)
 
--- ---- the least readers
+-- ---- the basic readers
 
 abbrev pub gives_at : {A : Type 0} → A → Reader A
 gives_at x bytes = Ok (x, bytes)
@@ -63,7 +63,7 @@ raw_bytes_at n bytes = if nat_lt (length bytes) n then Err Bad else Ok (take n b
 abbrev pub all_bytes_at : {A : Type 0} → (List ℕ → A) → Filler A
 all_bytes_at f bytes = Ok (f bytes)
 
--- ---- how they join
+-- ---- how readers are combined
 
 -- the next step, unless a step failed
 abbrev pub and_then : {A B : Type 0} → Result A Fault → (A → Result B Fault) → Result B Fault
@@ -85,7 +85,7 @@ measured_at p bytes = and_then (p bytes) (λ x. Ok ((x.0, length bytes - length 
 abbrev pub choose_at : {A : Type 0} → Bool → Reader A → Reader A → Reader A
 choose_at test p q bytes = if test then p bytes else q bytes
 
--- the reader that a value asks for, where there is one
+-- the reader that a value selects, where there is a value
 abbrev pub given_at : {A B : Type 0} → Option A → (A → Reader B) → Reader B → Reader B
 given_at (Some x) part other = part x
 given_at None part other = other
@@ -103,7 +103,7 @@ after_byte part (Some x) = part x.0 x.1
 abbrev pub first_byte_at : {A : Type 0} → (ℕ → Reader A) → Reader A
 first_byte_at part bytes = after_byte part (uncons bytes)
 
--- the reader that the first byte asks for, which begins with that byte
+-- the reader that the first byte selects, which begins with that byte
 abbrev pub at_byte : {A : Type 0} → (ℕ → Reader A) → List ℕ → Option (ℕ × List ℕ) → Result (A × List ℕ) Fault
 at_byte part bytes None = Err Bad
 at_byte part bytes (Some x) = part x.0 bytes

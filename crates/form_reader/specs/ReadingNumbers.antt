@@ -68,7 +68,7 @@ vector_at part = unsigned_at 32 >>= λ count. elements_at part count
 unfoldable pub counted_bytes_at : Reader (List ℕ)
 counted_bytes_at = unsigned_at 32 >>= λ count. raw_bytes_at count
 
--- a name is text
+-- a name is valid UTF-8
 unfoldable pub name_at : Reader (List ℕ)
 name_at = checked_at is_utf8 counted_bytes_at
 

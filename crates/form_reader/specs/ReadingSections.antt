@@ -8,7 +8,7 @@ use Rattle.form_reader.specs.Reading.{Fault, Bad, Stops, Filler, Fails, and_then
 use Rattle.form_reader.specs.declared.error.ReadError.{ReadError}
 use Rattle.form_reader.specs.SectionRows.{section}
 
--- sections to the end of the bytes, from a place on, in at most k steps
+-- sections to the end of the bytes, from an offset on, in at most k steps
 unfoldable pub sections_at : ℕ → ℕ → ℕ → Filler Module
 sections_at k place next [] = Ok []
 sections_at zero place next (b ∷ bytes) = Err Bad
@@ -22,16 +22,16 @@ all_sections_at place next bytes = sections_at (length bytes) place next bytes
 
 -- ---- some of the sections
 
--- what was read before, and what is still read
+-- what was read before, and what remains to be read
 abbrev pub with_payloads : Module → Result Module Fault → Result Module Fault
 with_payloads front read = and_then read (λ ps. Ok (front ++ ps))
 
--- up to a later place, and a later order, these sections are read, whatever follows
+-- up to a later offset, and a later order, these sections are read, whatever follows
 pub record Passes (place next : ℕ) (old : List ℕ) (front : Module) (later after : ℕ) (new : List ℕ) : Type 0 where
   pub fits : length front + length new ≤ length old
   pub reads : (k : ℕ) → sections_at (length front + k) place next old ≡ with_payloads front (sections_at k later after new)
 
--- sections were read and the new bytes are left, or reading of all of the old ones fails
+-- sections were read and the new bytes remain, or reading of all of the old ones fails
 abbrev pub ReadsSections : {A : Type 0} → (A → Module) → (place next after : ℕ) (old new : List ℕ) → Result A ReadError → Type 0
 ReadsSections view place next after old new (Ok x) =
     Passes place next old (view x) (place + (length old - length new)) after new × (length new < length old)

@@ -1,5 +1,5 @@
 -- How parts of the grammar are read: by a function on lists, and why the two agree. Each way to
--- join parts is here once, so that how a part is read follows the definition of the part, and is
+-- combine parts is here once, so that how a part is read follows the definition of the part, and is
 -- one row.
 use Rattle.std.specs.Prelude.{ℕ, List, [], Bool, Option}
 use Rattle.wasm_spec.specs.declared.operators.What.{What}
@@ -18,12 +18,12 @@ pub record Row {A : Type 0} (part : Part A) : Type 0 where
   pub read : Reader A
   pub agrees : Agrees read part
 
--- how a part is read that takes all bytes that there are
+-- how a part is read that takes all remaining bytes
 pub record Contents {A : Type 0} (part : Part A) : Type 0 where
   pub read : Filler A
   pub agrees : Fills read part
 
--- ---- the least rows
+-- ---- the basic rows
 
 abbrev pub gives : {A : Type 0} → (x : A) → Row (part.gives x)
 gives x = record { read = at.gives_at x; agrees = law.gives_agrees x }
@@ -52,7 +52,7 @@ counted_bytes = record { read = number.counted_bytes_at; agrees = law_of.counted
 abbrev pub all_bytes_as : {A : Type 0} → (f : List ℕ → A) → Contents (part.all_bytes_as f)
 all_bytes_as f = record { read = at.all_bytes_at f; agrees = law.all_bytes_fill f }
 
--- ---- how they join
+-- ---- how rows are combined
 
 infixl 10 ◌>>=◌
 abbrev pub ◌>>=◌ : {A B : Type 0} {g : Part A} {h : A → Part B} → Row g → ((x : A) → Row (h x)) → Row (part.◌>>=◌ g h)
@@ -90,10 +90,10 @@ fill_after first second = record { read = at.fill_after first.read (λ x. (secon
 abbrev pub sized : {A : Type 0} {g : Part A} → Contents g → Row (part.sized g)
 sized p = record { read = number.sized_at p.read; agrees = law_of.sized_agrees p.agrees }
 
--- a part that fills n bytes, made into a value
+-- a part that fills n bytes, converted to a value
 abbrev pub filled_as : {A B : Type 0} {g : Part A} → (n : ℕ) (make : A → B) → Row g → Row (part.filled (part.◌>>=◌ g (λ x. part.gives (make x))) n)
 filled_as n make p = record { read = at.◌>>=◌ (at.filled_at (at.whole p.read) n) (λ x. at.gives_at (make x)); agrees = made.filled_made n make p.agrees }
 
--- a size, and a part that fills it, made into a value
+-- a size, and a part that fills it, converted to a value
 abbrev pub sized_as : {A B : Type 0} {g : Part A} → (make : A → B) → Row g → Row (part.sized (part.◌>>=◌ g (λ x. part.gives (make x))))
 sized_as make p = record { read = at.◌>>=◌ (number.sized_at (at.whole p.read)) (λ x. at.gives_at (make x)); agrees = made.sized_made make p.agrees }

@@ -1,5 +1,5 @@
--- How sections are read: a row for each part of `Grammar`. Of custom sections those are taken that
--- are none of interface types.
+-- How sections are read: a row for each part of `Grammar`. Custom sections are supported, except
+-- those of interface types.
 use Rattle.std.specs.Prelude.{ℕ, ◌==◌, Option, ◌||◌, nat_le, Contains, codes, bytes_eq, if◌then◌else◌}
 use Rattle.std.specs.Str.{is_utf8}
 use Rattle.wasm_spec.specs.declared.types.RefType.{RefType}
@@ -123,7 +123,7 @@ flagged_segment flag =
 unfoldable pub data_segment : Row grammar.data_segment
 data_segment = unsigned 32 >>= λ flag. flagged_segment flag
 
--- ---- sections that are no custom ones
+-- ---- non-custom sections
 
 abbrev pub entries_as : {A : Type 0} {g : Part A} → Row g → (make : List A → Payload) → Row (grammar.entries_as g make)
 entries_as p make = sized_as make (vector p)

@@ -14,7 +14,7 @@ use form_data::{FunctionBody, Payload};
 use std::alloc::Global;
 use wasm_spec::ValType;
 
-/// How many locals of one type.
+/// A count of locals of one type.
 impl<'d> Entry<'d> for (u32, ValType) {
     type Value = (u32, ValType);
 
@@ -52,8 +52,8 @@ impl<'d> Entry<'d> for FunctionBody<'d> {
 }
 
 impl<'d> Cursor<'d> {
-    /// The function bodies that fill a section, and the place of their count in the input; the size
-    /// of the section stands at `place`.
+    /// The function bodies that fill a section, and the offset of their count in the input. The
+    /// size of the section is at the offset `place`.
     #[tactic(auto, unfolding(crate::specs::SectionRows::code_at, crate::specs::Reading::whole))]
     pub fn code(&mut self, alloc: Global, place: usize) -> Result<Payload<'d>, ReadError>
         requires { place + length self.now.rest.now < 2 ^ 30 }

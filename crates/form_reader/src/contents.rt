@@ -20,10 +20,10 @@ use form_data::{DataSegment, Element, Export, GlobalDef, Import, Payload, TableD
 use std::alloc::Global;
 use wasm_spec::MemoryType;
 
-/// The other ids in the order in which sections stand; custom sections stand anywhere.
+/// The other ids in the order in which sections occur. Custom sections may occur anywhere.
 const ORDER: [u8; 13] = [1, 2, 3, 4, 5, 13, 6, 7, 8, 9, 12, 10, 11];
 
-/// Where an id stands in that order.
+/// The position of an id in that order.
 pub fn order_of(id: u8) -> Option<usize>
     ensures { result ≡ spec_order_of id }
 {
@@ -76,7 +76,7 @@ fn payload_id(payload: &Payload<'_>) -> u8
     }
 }
 
-/// The least order of a section after this one.
+/// The lowest order of a section after this one.
 pub fn next_order(next: usize, section: &InputSection<'_>) -> usize
     ensures { result ≡ spec_next_order next (input_section_of section.now) }
 {
@@ -100,8 +100,8 @@ impl<'d> Cursor<'d> {
         Ok(number)
     }
 
-    /// What follows the id of a section that is not a custom one; it stands at `place`. The groups
-    /// of a type section are taken.
+    /// What follows the id of a non-custom section that is at the offset `place`. `taker` takes the
+    /// groups of a type section.
     #[tactic(auto, unfolding(crate::specs::SectionRows::section_contents))]
     pub fn section_contents<T: TakeGroups>(
         &mut self,

@@ -1,4 +1,5 @@
-//! A place in the input, and bytes that are read there (core specification, 5.1, grammar, and 5.2, names).
+//! A position in the input, and bytes that are read there (core specification, 5.1, grammar, and
+//! 5.2, names).
 
 ghost use Rattle.std.specs.Prelude.{◌≡◌};
 ghost use Rattle.form_reader.specs.Reading.{ByteRead, Reads, raw_bytes_at};
@@ -6,7 +7,8 @@ ghost use Rattle.form_reader.specs.ReadingNumbers.{counted_bytes_at, name_at};
 
 use crate::error::ReadError;
 
-/// The bytes that are still to be read. Where a read fails they are any of those that were.
+/// The bytes that remain to be read. After a failed read they may be any of the bytes that remained
+/// before it.
 #[derive(Drop)]
 pub struct Cursor<'d> {
     pub rest: &'d [u8],
@@ -74,7 +76,7 @@ impl<'d> Cursor<'d> {
         Ok(Cursor { rest })
     }
 
-    /// A name, which is text.
+    /// A name, which is valid UTF-8.
     #[inline(always)]
     #[tactic(auto, unfolding(crate::specs::ReadingNumbers::name_at))]
     pub fn name(&mut self) -> Result<&'d str, ReadError>

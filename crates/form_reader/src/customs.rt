@@ -20,15 +20,15 @@ use wasm_spec::What;
 /// The id of custom sections.
 pub const CUSTOM: u8 = 0;
 
-/// Custom sections that stand one after another and stay in the input. They were read once, and are
-/// read again where they are walked.
+/// Custom sections that follow one another and stay in the input. They were read once, and are read
+/// again where they are iterated.
 #[derive(Clone, Copy)]
 pub struct InputCustoms<'d> {
     count: usize,
     bytes: &'d [u8],
 }
 
-/// Whether a name is one of custom sections of interface types, which are not taken.
+/// Whether a name is one of custom sections of interface types, which are not supported.
 fn is_interface_name(name: &str) -> bool
     ensures { result ≡ spec_is_interface_name name.now }
 {
@@ -68,7 +68,7 @@ impl<'d> Cursor<'d> {
         }
     }
 
-    /// The custom sections before the next other one.
+    /// The custom sections before the next section of another kind.
     pub fn customs(&mut self) -> Result<InputCustoms<'d>, ReadError>
         requires { starts_with nat_eq self.now.rest.now (0 ∷ []) ≡ true }
         ensures { (place next : ℕ) → ReadsSections customs_in place next next self.old.rest.now self.new.rest.now result }
@@ -163,7 +163,7 @@ impl<'d> Iterator for InputCustoms<'d> {
                 self.bytes = rest;
                 Some(custom)
             }
-            // It was read before, so that this is not met.
+            // It was read before, so this does not occur.
             None => {
                 self.count = 0;
                 None

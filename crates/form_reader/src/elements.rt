@@ -71,7 +71,7 @@ impl<'d> InputEntry<'d> for Element {
     }
 }
 
-// Each of these reads in the place of a segment that is no longer asked for, whose lists are used again.
+// Each of these overwrites a segment that is no longer needed, and reuses its lists.
 impl<'d> Cursor<'d> {
     /// An element segment, after its flag.
     #[tactic(auto, unfolding(crate::specs::SectionRows::flagged_element))]

@@ -9,9 +9,9 @@ use wasm_spec::What;
 /// Why bytes are not read as a module.
 #[derive(Clone, Copy, Debug, PartialEq, Eq)]
 pub enum ReadError {
-    /// The bytes spell no module, and reading them comes to no spelling that is not taken.
+    /// The bytes spell no module, and reading them reaches no spelling that is not supported.
     Malformed,
-    /// Reading comes to a spelling that is not taken.
+    /// Reading reaches a spelling that is not supported.
     Unsupported(What),
     /// The input has 2^30 bytes or more.
     TooLarge,

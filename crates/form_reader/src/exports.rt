@@ -31,7 +31,7 @@ impl<'d> Entry<'d> for Export<'d> {
 }
 
 impl<'d> Cursor<'d> {
-    /// The kind of what is exported.
+    /// The kind of an export.
     #[tactic(auto, unfolding(crate::specs::SectionRows::external_kind))]
     fn external_kind(&mut self) -> Result<ExternalKind, ReadError>
         ensures { Reads external_kind.read (λ x. x) self.old.rest.now self.new.rest.now result }

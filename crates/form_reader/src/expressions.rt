@@ -37,7 +37,7 @@ impl<'d> Cursor<'d> {
         Ok(ConstExpr { ops })
     }
 
-    /// The operators up to the end mark, in a list of which nothing is asked any more.
+    /// The operators up to the end mark, in a list whose contents are no longer needed.
     pub fn expression_into(&mut self, ops: &mut Vec<Operator>) -> Result<(), ReadError>
         ensures { Reads expression_at (λ u. ops.new.items) self.old.rest.now self.new.rest.now result }
     {

@@ -1,4 +1,4 @@
-//! The groups of a module's types are taken as they are read.
+//! The groups of a module's types are passed to a `TakeGroups` as they are read.
 
 ghost use Rattle.std.specs.Prelude.{◌≡◌, List, [], ◌∷◌, IfOk, OnOk};
 ghost use Rattle.wasm_spec.specs.declared.types.UnpackedIndex.{UnpackedIndex};
@@ -15,7 +15,7 @@ use crate::input_vectors::{InputEntry, InputVector};
 use form_data::RecGroup;
 use std::alloc::{AllocError, Global};
 
-/// What takes the groups of a module's types, one after another, as they are read.
+/// A consumer of the groups of a module's types, one after another, as they are read.
 pub trait TakeGroups {
     /// Which groups it took, in order.
     ghost took: { Self → List (data_of.Group UnpackedIndex UnpackedIndex) → Type 0 };
@@ -39,7 +39,7 @@ impl TakeGroups for Nobody {
 }
 
 impl<'d> Cursor<'d> {
-    /// A count, and that many groups, each of which is taken as it is read.
+    /// A count, and that many groups. `taker` takes each as it is read.
     #[tactic(auto, unfolding(crate::specs::ReadingNumbers::vector_at))]
     fn counted_groups<T: TakeGroups>(
         &mut self,
@@ -60,7 +60,7 @@ impl<'d> Cursor<'d> {
         Ok(InputVector { count, bytes })
     }
 
-    /// A size, and a count and groups that fill it, each of which is taken as it is read.
+    /// A size, and a count and groups that fill it. `taker` takes each group as it is read.
     #[tactic(auto, unfolding(crate::specs::Reading::whole, crate::specs::ReadingNumbers::sized_at))]
     pub(crate) fn taken_groups<T: TakeGroups>(
         &mut self,

@@ -21,15 +21,15 @@ pub enum InputEntries<'d> {
     Segments(InputVector<'d>),
 }
 
-/// A section that is no custom one: its entries stay in the input, or were read into lists.
+/// A non-custom section: its entries stay in the input, or were read into lists.
 #[derive(Drop)]
 pub enum InputSection<'d> {
     Input(InputEntries<'d>),
     Read(Payload<'d>),
 }
 
-/// Custom sections with no other one between them, which stay in the input, or one section that is
-/// no custom one.
+/// Custom sections with no other section between them, which stay in the input, or one non-custom
+/// section.
 #[derive(Drop)]
 pub enum InputPart<'d> {
     Customs(InputCustoms<'d>),
@@ -39,8 +39,8 @@ pub enum InputPart<'d> {
 /// The sections of a module in order; its types, functions, tags, globals, segments and custom
 /// sections stay in the input.
 ///
-/// Of sections that are no custom ones there is at most one of each kind, and so at most 27 parts,
-/// whatever the input.
+/// There is at most one non-custom section of each kind, and so at most 27 parts, whatever the
+/// input.
 #[derive(Drop)]
 pub struct InputForm<'d> {
     pub wasm: &'d [u8],

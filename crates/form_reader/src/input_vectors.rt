@@ -15,10 +15,10 @@ use form_data::Payload;
 use std::alloc::{AllocError, Global};
 use std::mem;
 
-/// How many entries are many. Fewer may be listed, whatever stands in them.
+/// The number of entries from which a list is large. Fewer may be listed, whatever they contain.
 const MANY_ENTRIES: u32 = 1024;
 
-/// What a section lists that stays in the input.
+/// An entry of a section that stays in the input.
 pub trait InputEntry<'d> {
     type Value: Drop;
 
@@ -40,10 +40,10 @@ pub trait InputEntry<'d> {
     fn in_input(entries: InputEntries<'d>) -> InputVector<'d>
         ensures { vector_in form result ≡ of_section (input_payload_of entries.entry) };
 
-    /// An entry that nothing asks for, without an allocation.
+    /// An entry as a placeholder, without an allocation.
     fn none(alloc: Global) -> Self::Value;
 
-    /// Reads in the place of an entry that is no longer asked for, whose lists may be used again.
+    /// Overwrites an entry that is no longer needed with the next one, and may reuse its lists.
     fn read_into(
         entry: &mut Self::Value,
         alloc: Global,
@@ -53,7 +53,7 @@ pub trait InputEntry<'d> {
 }
 
 /// The entries of a section, which stay in the input. They were read once, and are read again where
-/// they are walked.
+/// they are iterated.
 #[derive(Clone, Copy)]
 pub struct InputVector<'d> {
     pub(crate) count: u32,
@@ -166,8 +166,8 @@ impl<'d> InputVector<'d> {
         }
     }
 
-    /// Takes the first entry, in the place of one that is no longer asked for, whose lists may be
-    /// used again; at the end there is none.
+    /// Takes the first entry, and writes it over one that is no longer needed, whose lists may be
+    /// reused. At the end there is none.
     pub fn next_into<E: InputEntry<'d>>(
         &mut self,
         alloc: Global,
@@ -186,7 +186,7 @@ impl<'d> InputVector<'d> {
                 Ok(true)
             }
             Err(ReadError::OutOfMemory) => Err(AllocError),
-            // They were read before, so that none of these is met.
+            // They were read before, so none of these occurs.
             Err(ReadError::Malformed) => Ok(self.end()),
             Err(ReadError::Unsupported(_)) => Ok(self.end()),
             Err(ReadError::TooLarge) => Ok(self.end()),
@@ -222,7 +222,7 @@ impl<'d> InputVector<'d> {
     ) -> Result<(), AllocError>
         ensures { OnOk result (map E.view list.new.items ≡ map E.view list.old.items ++ vector_in E.form self.entry) }
     {
-        // They were read before, so that there are as many as was counted.
+        // They were read before, so there are as many as was counted.
         list.reserve_exact(self.count as usize)?;
         let mut entry = E::none(alloc);
         'entries: while self.next_into::<E>(alloc, &mut entry)? {

@@ -1,4 +1,4 @@
-//! Laws of the definitions, which reading shows.
+//! Laws of the definitions, which follow from the reader.
 
 ghost use Rattle.std.specs.Prelude.{◌≡◌, ℕ, List};
 ghost use Rattle.wasm_spec.specs.declared.operators.What.{What};

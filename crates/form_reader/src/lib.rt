@@ -1,7 +1,8 @@
 //! The reader of modules in the binary format, for `wasm_form` and `module_environ`.
 //!
 //! `read_module` returns a module only where the bytes spell exactly that module. Each `ReadError`
-//! has its cause, and what the grammar spells is read, except custom sections of interface types.
+//! has its cause, and what the grammar spells is accepted, except custom sections of interface
+//! types.
 //!
 //! ```
 //! let refused = read_module(alloc, b"\0asm").err(); // Some(ReadError::Malformed)
@@ -10,7 +11,7 @@
 //! ```
 //!
 //! Input of 2^30 bytes or more is `TooLarge`. `read_input` leaves large sections in the input, and
-//! their entries are read again where they are walked.
+//! their entries are read again where they are iterated.
 //!
 //! Read on: `module`, then `sections` and `vectors`; `wasm_spec` has the grammar, and `wasm_form`
 //! the public paths.

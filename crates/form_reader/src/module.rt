@@ -73,7 +73,7 @@ fn collected<'d>(alloc: Global, parts: Vec<InputPart<'d>>) -> Result<Vec<Payload
 }
 
 /// The module that the bytes spell; its types, functions, tags, globals, segments and custom
-/// sections stay in the input. The groups of its types are taken as they are read.
+/// sections stay in the input. `taker` takes the groups of its types as they are read.
 ///
 /// # Errors
 /// Those of `read_module`.
@@ -109,8 +109,8 @@ pub fn read_input<'d, T: TakeGroups>(
 /// The module that the bytes spell.
 ///
 /// # Errors
-/// `TooLarge` exactly for 2^30 bytes or more; `Unsupported` where reading comes to a spelling that
-/// is not taken; `Malformed` where no module is spelled and reading comes to no such spelling.
+/// `TooLarge` exactly for 2^30 bytes or more; `Unsupported` where reading reaches a spelling that
+/// is not supported; `Malformed` where no module is spelled and reading reaches no such spelling.
 pub fn read_module<'d>(alloc: Global, bytes: &'d [u8]) -> Result<Form<'d>, ReadError>
     // What is read is spelled so.
     ensures read { IfOk result (λ form. Spells bytes.now (module_of form)) }

@@ -8,17 +8,17 @@ ghost use Rattle.form_reader.specs.ReadingNumbers.{unsigned_at, signed_at, non_n
 use crate::cursor::Cursor;
 use crate::error::ReadError;
 
-/// The most bytes of a number of 32 bits.
+/// The maximum number of bytes of a number of 32 bits.
 const MOST_BYTES: usize = 5;
 
-/// The most bytes of a number of 64 bits.
+/// The maximum number of bytes of a number of 64 bits.
 const MOST_WIDE_BYTES: usize = 10;
 
 /// The low seven bits of each byte of a short number, together.
 #[derive(Clone, Copy)]
 pub struct Sevens {
     pub sum: u64,
-    /// 128 to the number of bytes.
+    /// 128 to the power of the number of bytes.
     pub weight: u64,
     pub last: u8,
 }
@@ -27,7 +27,7 @@ pub struct Sevens {
 #[derive(Clone, Copy)]
 pub struct WideSevens {
     pub sum: u128,
-    /// 128 to the number of bytes.
+    /// 128 to the power of the number of bytes.
     pub weight: u128,
     pub last: u8,
 }
@@ -202,7 +202,8 @@ impl<'d> Cursor<'d> {
         }
     }
 
-    /// An unsigned number of 32 bits. Most numbers have one byte, so that has a path of its own.
+    /// An unsigned number of 32 bits. Most numbers have one byte, so there is a separate path for
+    /// that.
     #[inline]
     pub fn u32(&mut self) -> Result<u32, ReadError>
         ensures { Reads (unsigned_at 32) (λ x. x) self.old.rest.now self.new.rest.now result }

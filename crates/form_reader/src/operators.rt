@@ -35,7 +35,8 @@ impl<'d> Cursor<'d> {
         }
     }
 
-    /// A constant, or arithmetic, after its first byte. Of the bits of a float the lowest byte comes first.
+    /// A constant, or arithmetic, after its first byte. The bits of a float are in little-endian
+    /// order.
     #[tactic(auto, unfolding(crate::specs::ExpressionRows::constant_after))]
     fn constant(&mut self, first: u8) -> Result<Operator, ReadError>
         ensures { Reads (constant_after first).read (λ x. x) self.old.rest.now self.new.rest.now result }

@@ -16,8 +16,8 @@ use crate::input::{InputPart, InputSection};
 use std::alloc::Global;
 
 impl<'d> Cursor<'d> {
-    /// A section that is no custom one and stands at a place of the input, where the next one has
-    /// at least the order `next`.
+    /// A non-custom section at a given offset of the input, where the next one has at least the
+    /// order `next`.
     #[tactic(auto, unfolding(crate::specs::SectionRows::section))]
     pub fn section<T: TakeGroups>(
         &mut self,
@@ -62,8 +62,8 @@ impl<'d> Cursor<'d> {
     }
 }
 
-/// The sections up to the end of the bytes, which begin at a place of the input; the groups of
-/// types are taken.
+/// The sections up to the end of the bytes, which begin at a given offset of the input. `taker`
+/// takes the groups of types.
 pub fn sections<'d, T: TakeGroups>(
     alloc: Global,
     start: usize,

@@ -59,7 +59,7 @@ impl<'d> InputEntry<'d> for DataSegment<'d> {
     }
 }
 
-// Each of these reads in the place of a segment that is no longer asked for, whose list is used again.
+// Each of these overwrites a segment that is no longer needed, and reuses its list.
 impl<'d> Cursor<'d> {
     /// A data segment, after its flag.
     #[tactic(auto, unfolding(crate::specs::SectionRows::flagged_segment))]

@@ -15,7 +15,7 @@ const HEADER_SIZE: usize = 8;
 
 /// The bytes of a module's type section after its id and its size (core specification, 5.5, type
 /// section), which spell its types; none where the bytes have no such section. Digests of a
-/// module's types are taken over them.
+/// module's types are computed over them.
 #[tactic(auto, unfolding(crate::specs::TypeBytes::contents_of))]
 pub fn type_section_bytes<'d>(wasm: &'d [u8]) -> &'d [u8]
     ensures { result.now ≡ type_bytes wasm.now }
@@ -26,7 +26,7 @@ pub fn type_section_bytes<'d>(wasm: &'d [u8]) -> &'d [u8]
     }
 }
 
-/// The contents of the first section that has an id, among those that stand one after another.
+/// The contents of the first section that has an id, among sections that follow one another.
 #[tactic(auto, unfolding(crate::specs::TypeBytes::contents_of))]
 fn contents_of<'d>(id: u8, sections: &'d [u8]) -> &'d [u8]
     ensures { result.now ≡ contents_of id (length sections.now) sections.now }

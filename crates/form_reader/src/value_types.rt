@@ -142,7 +142,7 @@ impl<'d> Cursor<'d> {
         Ok(ValType::Ref(reference))
     }
 
-    /// A value type. Most are number types, so they have a path of their own.
+    /// A value type. Most are number types, so there is a separate path for them.
     #[inline]
     #[tactic(auto, unfolding(crate::specs::TypeRows::value_type, crate::specs::TypeRows::value_after))]
     pub fn value_type(&mut self) -> Result<ValType, ReadError>

@@ -8,10 +8,10 @@ use crate::cursor::Cursor;
 use crate::error::ReadError;
 use std::alloc::Global;
 
-/// The most entries that a list has room for before they are read.
+/// The maximum number of entries for which a list has capacity before they are read.
 pub(crate) const MOST_ROOM: usize = 1024;
 
-/// What the lists of a module are made of.
+/// An entry of the lists of a module.
 pub trait Entry<'d> {
     type Value: Drop;
 
@@ -47,7 +47,8 @@ impl<'d> Entry<'d> for Index {
 impl<'d> Cursor<'d> {
     /// A count, and that many entries.
     ///
-    /// The list begins with room for no more entries than there are bytes, since the count may be any number.
+    /// The list begins with capacity for no more entries than there are bytes, since the count may
+    /// be any number.
     pub fn vector<E: Entry<'d>>(&mut self, alloc: Global) -> Result<Vec<E::Value>, ReadError>
         ensures { Reads (vector_at E.form) (λ v. map E.view v.items) self.old.rest.now self.new.rest.now result }
     {
@@ -56,7 +57,7 @@ impl<'d> Cursor<'d> {
         Ok(all)
     }
 
-    /// As `vector`, in a list of which nothing is asked any more.
+    /// As `vector`, in a list whose contents are no longer needed.
     #[tactic(auto, unfolding(crate::specs::ReadingNumbers::vector_at))]
     pub fn vector_into<E: Entry<'d>>(
         &mut self,

@@ -33,7 +33,7 @@ distinct_front xs ys all i j d lt in' =
     let apart = all i j d lt (omega (arith, length-append xs ys)) in
     λ same. apart (ap (λ (e : Export). e.name) left ∙ same ∙ sym (ap (λ (e : Export). e.name) right))
 
--- a name that is not there leaves names distinct
+-- a name that is new leaves names distinct
 distinct_more : (es : List Export) (e : Export) → list_any (bytes_eq e.name) (exported_names es) ≡ false → AreDistinct es → AreDistinct (es ++ e ∷ [])
 distinct_more es e absent distinct =
     all_pairs_push (λ (a b : Export). a.name ≢ b.name) es e distinct (λ k d lt same.
@@ -41,7 +41,7 @@ distinct_more es e absent distinct =
     let none = sym (any_named e.name es) ∙ absent in
     absurd (cc))
 
--- and one that is there does not
+-- and one that is present does not
 repeated : (es : List Export) (e : Export) → list_any (bytes_eq e.name) (exported_names es) ≡ true → AreDistinct (es ++ e ∷ []) → ⊥
 repeated es e present distinct =
     let found = any_true (λ (x : Export). bytes_eq e.name x.name) es (sym (any_named e.name es) ∙ present) in
@@ -52,7 +52,7 @@ repeated es e present distinct =
 
 -- ---- over exports
 
--- the pool has the names of some exports, in order, and the others are left
+-- the pool has the names of some exports, in order, and the others remain
 pub record Gathers (texts : List (List ℕ)) (left all : List Export) : Type 0 where
   pub done : List Export
   pub names : texts ≡ exported_names done

@@ -1,4 +1,4 @@
--- What reading the worked bytes comes to.
+-- The result of reading the worked bytes.
 use Rattle.std.proofs.Common.{◌≡◌, Ok, Err, refl, sym, ◌∙◌, inl, inr}
 use Rattle.std.specs.Prelude.{take}
 use Rattle.wasm_spec.specs.declared.operators.What.{What}

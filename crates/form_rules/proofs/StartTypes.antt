@@ -1,4 +1,4 @@
--- What is asked of a start function's type does not depend on what references name.
+-- What is required of a start function's type does not depend on what references name.
 use Rattle.std.proofs.Common.{◌≡◌, ◌↔◌, List, [], ◌∷◌, map, refl}
 use Rattle.wasm_spec.specs.TypeData.{Func, Array, Struct, Cont, Exn}
 use Rattle.rule_spec.specs.Indices.{TakesAndGivesNothing}

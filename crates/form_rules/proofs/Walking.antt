@@ -1,4 +1,4 @@
--- Tests of all entries, while a walk has some of them left.
+-- Tests of all entries, while some of them remain in a walk.
 use Rattle.std.proofs.Common.{◌≡◌, ◌↔◌, ℕ, ◌+◌, Bool, false, IsTrue, List, [], ◌∷◌, length, All, sym, ap, subst, arith}
 use Rattle.std.proofs.lemmas.List.Elements.{All-nil, All-cons, All-head, All-tail}
 use Rattle.wasm_spec.specs.Module.{GlobalDef}
@@ -22,17 +22,18 @@ by_All P = record {
 pub by_globals : (l : Lists) (index : ℕ) → ByEntry (AreGlobalsTyped l index) (AreGlobalsTyped l (index + 1)) (IsGlobalTyped l index)
 by_globals l index = record { none = tt; split = λ (g : GlobalDef) rest. (λ all. all, λ both. both) }
 
--- W is that all hold: it is that those hold which were asked, as b says, and those which are left
+-- W says that all hold. It holds exactly where those checked so far hold, as b says, and the
+-- remaining ones hold
 module _ {X : Type 0} {Now Next : List X → Type 0} {One : X → Type 0} (by : ByEntry Now Next One)
     (W : Type 0) (b : Bool) (left rest : List X) (x : X) (tells : (IsTrue b × Now left) ↔ W) where
-  -- one more was asked
+  -- one more was checked
   pub asked_more : (c : Bool) → left ≡ x ∷ rest → IsTrue c ↔ (IsTrue b × One x) → (IsTrue c × Next rest) ↔ W
   asked_more c at one = (
     λ both. let asked = one.0 both.0 in tells.0 (asked.0, subst Now (sym at) ((by.split x rest).1 (asked.1, both.1))),
     λ all. let both = tells.1 all in let parts = (by.split x rest).0 (subst Now at both.1) in (one.1 (both.0, parts.0), parts.1),
   )
 
-  -- all were asked
+  -- all were checked
   pub asked_all : (more : Bool) → more ≡ false → Takes left x rest more → IsTrue b ↔ W
   asked_all more ended takes =
       let none : left ≡ [] = (subst (Takes left x rest) ended takes).0 in

@@ -9,6 +9,6 @@ abbrev pub ChecksOrNoMemory : {A : Type 0} → Result A CheckError → Type 0
 ChecksOrNoMemory (Ok x) = Unit {0}
 ChecksOrNoMemory (Err e) = e ≡ checks.OutOfMemory
 
--- each defined global has its place among the globals
+-- each defined global has an entry in the index space of globals
 abbrev pub HasGlobals : Lists → Type 0
 HasGlobals l = l.imported_globals + length l.globals ≤ length l.global_types

@@ -12,8 +12,8 @@ use form_data::{FunctionBody, Payload};
 use form_lists::{Lists, Section, Source, count_entries, entries_of, sections_of};
 use wasm_spec::ValType;
 
-/// Whether bodies, data segments and locals are as many as is stated or allowed. There are `count`
-/// data segments.
+/// Whether bodies, data segments and locals are as many as is declared or allowed. There are
+/// `count` data segments.
 pub fn counts_agree(lists: &Lists<'_, '_>, count: usize) -> bool
     requires { count ≡ length (segments (source_module lists.now.source)) }
     ensures { IsTrue result ↔ CountsAgree (lists_of lists.now) }
@@ -32,7 +32,7 @@ fn bodies_hold(lists: &Lists<'_, '_>) -> bool
         && functions - lists.imported_functions == count_entries::<FunctionBody<'_>>(lists.source)
 }
 
-/// Whether each stated number of data segments is their number.
+/// Whether each declared number of data segments is their number.
 fn data_counts_hold(source: Source<'_, '_>, count: usize) -> bool
     ensures { IsTrue result ↔ All (λ stated. stated ≡ count) (flat_map data_counts_of_section (source_module source.entry)) }
 {

@@ -1,5 +1,5 @@
-//! What the rules ask of element segments, found for all of them by one walk, since a segment that
-//! stays in the input is read again in each.
+//! What the rules require of element segments. One walk checks all rules, since each walk reads a
+//! segment again that stays in the input.
 
 ghost use Rattle.std.specs.Prelude.{◌≡◌, ◌↔◌, IsTrue, IfOk};
 ghost use Rattle.form_data.specs.Views.{element_of};
@@ -15,10 +15,10 @@ use form_typing::element_is_typed;
 use rule_spec::Class;
 use std::alloc::{AllocError, Global};
 
-/// Of each rule that asks something of element segments, whether all of them keep it.
+/// For each rule about element segments, whether all of them keep it.
 #[derive(Clone, Copy)]
 pub struct ElementsKeep {
-    /// Their expressions have the classes of their places (L6).
+    /// Their expressions have the classes that their places require (L6).
     pub typed: bool,
     /// What they name is in range (L9).
     pub in_range: bool,
@@ -48,7 +48,7 @@ pub fn walk_elements(
     Ok(kept)
 }
 
-/// What holds of one segment more.
+/// The same with one segment more.
 fn with_element(
     lists: &Lists<'_, '_>,
     defaults: &[bool],

@@ -13,7 +13,8 @@ use form_data::Export;
 use form_lists::{Lists, entries_of};
 use wasm_spec::ExternalKind;
 
-/// Whether each export names an entry of its index space, and no two have one name, which was asked before.
+/// Whether each export names an entry of its index space, and no two have one name, which was
+/// checked before.
 pub fn exports_hold(lists: &Lists<'_, '_>, distinct: bool) -> bool
     requires { IsTrue distinct ↔ AreDistinct (lists_of lists.now).exports }
     ensures { IsTrue result ↔ AreExported (lists_of lists.now) }

@@ -1,5 +1,5 @@
-//! What the rules ask of globals, found for all of them by one walk, since a global that stays in
-//! the input is read again in each.
+//! What the rules require of globals. One walk checks all rules, since each walk reads a global
+//! again that stays in the input.
 
 ghost use Rattle.std.specs.Prelude.{◌≡◌, ◌↔◌, ◌≤◌, length, IsTrue, IfOk};
 ghost use Rattle.form_data.specs.Views.{global_of};
@@ -15,10 +15,10 @@ use form_typing::global_is_typed;
 use rule_spec::Class;
 use std::alloc::{AllocError, Global};
 
-/// Of each rule that asks something of globals, whether all of them keep it.
+/// For each rule about globals, whether all of them keep it.
 #[derive(Clone, Copy)]
 pub struct GlobalsKeep {
-    /// Their expressions have the classes of their places (L6).
+    /// Their expressions have the classes that their places require (L6).
     pub typed: bool,
     /// Their concrete references name declared types (L10).
     pub refer: bool,
@@ -48,7 +48,7 @@ pub fn walk_globals(
     Ok(kept)
 }
 
-/// What holds of one global more, which has this index.
+/// The same with one global more, which has this index.
 fn with_global(
     lists: &Lists<'_, '_>,
     defaults: &[bool],

@@ -8,7 +8,7 @@ ghost use Rattle.form_lists.specs.Views.{lists_of};
 use form_data::{DataKind, Element, ElementItems, ElementKind};
 use form_lists::Lists;
 
-/// Whether the table and the functions that an element segment names are there.
+/// Whether the table and the functions that an element segment names exist.
 pub fn element_is_in_range(lists: &Lists<'_, '_>, element: &Element) -> bool
     ensures { IsTrue result ↔ IsElementInRange (lists_of lists.now) (element_of element.now) }
 {
@@ -41,7 +41,7 @@ fn all_below(indices: &[u32], bound: usize) -> bool
     indices.iter().all(|index| (*index as usize) < bound)
 }
 
-/// Whether the memory that a data segment names is there.
+/// Whether the memory that a data segment names exists.
 pub fn names_memory(lists: &Lists<'_, '_>, kind: &DataKind) -> bool
     ensures { IsTrue result ↔ NamesMemory (lists_of lists.now) (data_kind_of kind.now) }
 {

@@ -16,10 +16,11 @@ use form_data::{Export, Import};
 use form_lists::{Source, count_entries, entries_of};
 use std::alloc::Global;
 
-/// How many names of modules a pool has room for: most modules import from few.
+/// The number of module names for which a pool has capacity: most modules import from few.
 const FEW_MODULES: usize = 64;
 
-/// The pool of the names of exports, in order, unless two have one name. There is room for those of imports.
+/// The pool of the names of exports, in order, unless two have one name. It has capacity for those
+/// of imports.
 pub(crate) fn pool_of_exports(
     alloc: Global,
     source: Source<'_, '_>,
@@ -37,7 +38,7 @@ pub(crate) fn pool_of_exports(
     Ok(Some(pool))
 }
 
-/// Inserts a text, and tells whether it was not there.
+/// Inserts a text, and returns whether it was new.
 fn insert_new(pool: &mut StringPool, text: &str) -> Result<bool, OutOfMemory>
     ensures new { IfOk result (λ new. new ≡ not (list_any (bytes_eq text.now) pool.old)) }
     ensures inserted { OnOk result (pool.new ≡ with_text pool.old text.now) }
@@ -50,7 +51,7 @@ fn insert_new(pool: &mut StringPool, text: &str) -> Result<bool, OutOfMemory>
     Ok(pool.len() > count)
 }
 
-/// A pool of no text, with room for the name of each import and of each export.
+/// An empty pool, with capacity for the name of each import and of each export.
 fn empty_pool(alloc: Global, source: Source<'_, '_>) -> Result<StringPool, OutOfMemory>
     ensures { IfOk result (λ pool. pool ≡ []) }
 {

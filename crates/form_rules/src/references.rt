@@ -18,8 +18,8 @@ use form_types::{heap_is_below, value_is_below};
 use wasm_spec::{Operator, TypeRef};
 
 /// Whether each concrete reference outside the type section names one of the declared types.
-/// `globals_refer`, `elements_refer` and `segments_refer` say it of globals and segments, by
-/// `global_refers`, `element_refers` and `data_kind_refers` of each.
+/// `globals_refer`, `elements_refer` and `segments_refer` are the results for globals and segments,
+/// by `global_refers`, `element_refers` and `data_kind_refers` of each.
 pub fn references_hold(
     lists: &Lists<'_, '_>,
     globals_refer: bool,

@@ -33,7 +33,7 @@ use form_typing::{expressions_hold, struct_defaults};
 use rule_spec::Rule;
 use std::alloc::{AllocError, Global};
 
-/// The listed rules, in the order in which they are checked, but for the first, which is asked
+/// The listed rules, in the order in which they are checked, except the first, which is checked
 /// while types are numbered.
 const RULES: [Rule; 9] = [
     Rule::L2,
@@ -47,7 +47,7 @@ const RULES: [Rule; 9] = [
     Rule::L10,
 ];
 
-/// What the rules ask of all entries of a kind, which is found before the rules are asked.
+/// What the rules require of all entries of a kind, which is found before the rules are checked.
 #[derive(Clone, Copy)]
 pub struct Asked {
     pub globals: GlobalsKeep,
@@ -119,7 +119,8 @@ pub fn checked_lists<'f, 'd>(
     }
 }
 
-/// Whether a rule is kept; what all entries of a kind are asked was asked before, and so was the first rule.
+/// Whether a rule is kept. What rules require of all entries of a kind was checked before, and so
+/// was the first rule.
 fn keeps(
     alloc: Global,
     rule: Rule,

@@ -1,4 +1,4 @@
-//! What the rules ask of data segments, found for all of them by one walk, as it is of element segments.
+//! What the rules require of data segments. One walk checks all rules, as for element segments.
 
 ghost use Rattle.std.specs.Prelude.{◌≡◌, ◌↔◌, IsTrue, IfOk};
 ghost use Rattle.form_data.specs.Views.{segment_of};
@@ -14,14 +14,13 @@ use form_typing::segment_is_typed;
 use rule_spec::Class;
 use std::alloc::{AllocError, Global};
 
-/// How many data segments there are, and of each rule that asks something of them, whether all of
-/// them keep it.
+/// How many data segments there are, and for each rule about them, whether all of them keep it.
 #[derive(Clone, Copy)]
 pub struct SegmentsKeep {
     pub count: usize,
-    /// Their offsets have the classes of their places (L6).
+    /// Their offsets have the classes that their places require (L6).
     pub typed: bool,
-    /// The memories that they name are there (L9).
+    /// The memories that they name exist (L9).
     pub in_range: bool,
     /// Their concrete references name declared types (L10).
     pub refer: bool,
@@ -50,7 +49,8 @@ pub fn walk_segments<'d>(
     Ok(kept)
 }
 
-/// What holds of one segment more. More than a `usize` counts fit in no memory.
+/// The same with one segment more. More segments than a `usize` counts give an `AllocError`: they
+/// fit in no memory.
 fn with_segment(
     lists: &Lists<'_, '_>,
     defaults: &[bool],

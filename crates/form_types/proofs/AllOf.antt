@@ -34,14 +34,14 @@ All-parts {Y = Y} P f (y ∷ ys) =
 
 -- ---- tests
 
--- a test of the values that are seen by a view
+-- a test of the values that a view gives
 pub tells_of_map : {X Y : Type 0} (P : X → Type 0) (f : Y → X) (ys : List Y) (b : Bool) → IsTrue b ↔ All (λ y. P (f y)) ys
     → IsTrue b ↔ All P (map f ys)
 tells_of_map P f ys b tells = (λ answered. All-map P f ys (tells.0 answered), λ all. tells.1 (All-from_map P f ys all))
 
 -- ---- loops over a list
 
--- W is that all hold: while each has held so far, it is that those hold which are left
+-- W says that all hold. While each has held so far, W holds exactly where the remaining ones hold
 module _ {X : Type 0} (P : X → Type 0) (W : Type 0) (left rest : List X) (x : X) (at : left ≡ x ∷ rest) (tells : All P left ↔ W) where
   -- one more holds
   pub left_more : P x → All P rest ↔ W

@@ -1,4 +1,4 @@
--- Frames are told apart by their bytes.
+-- Different frames have different bytes.
 use Rattle.std.proofs.Common.{◌≡◌, ◌∙◌, ℕ, ◌+◌, ◌-◌, Bool, true, false, nat_eq, nat_lt, List, [], ◌∷◌, ◌++◌, get_or, map, Option, Some, None, if◌then◌else◌, refl, sym, ap, arith, append_assoc}
 use Rattle.std.specs.Prelude.{is_some}
 use Rattle.std.proofs.lemmas.Bool.{le-ltb}
@@ -105,7 +105,7 @@ no_end : decode 0x0B ≡ None
 unfolding decode
 no_end = refl
 
--- ---- what bytes begin with is told by them
+-- ---- bytes determine what they begin with
 flag-told : (a b : Bool) → flag a ≡ flag b → a ≡ b
 flag-told a b same = grind arith
 

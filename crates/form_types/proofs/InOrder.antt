@@ -1,12 +1,12 @@
--- Numbers that are given in rows, each from one on that is at or below the count of those given
--- before: they come in the order of first occurrence, and there are no others.
+-- Numbers that are given in rows of consecutive numbers. Each row begins at or below the count of
+-- those given before, so they come in the order of first occurrence, and there are no others.
 use Rattle.std.proofs.Common.{◌≡◌, ◌∙◌, ℕ, ◌+◌, ◌-◌, ◌<◌, ◌≤◌, inl, inr, ap, arith}
 use Rattle.std.proofs.lemmas.Bool.{cases_lt}
 use Rattle.form_types.specs.Taken.{AreGiven}
 
 module _ (number number' : ℕ → ℕ) (many count first long : ℕ) (given : AreGiven number many count) (low : first ≤ count)
     (agree : (i : ℕ) → i < many → number' i ≡ number i) (row : (p : ℕ) → p < long → number' (many + p) ≡ first + p) where
-  -- a number below the count, or in the row before a place, was given before that place
+  -- a number below the count, or in the row before a position, was given before that position
   before : (p id : ℕ) → p ≤ long → (count ≤ id → id < first + p) → (j : ℕ) × (j < many + p) × (number' j ≡ id)
   before p id le high =
       elim (cases_lt id count) [

@@ -1,4 +1,4 @@
--- A key is that of one canonical group, and looking up tells keys apart.
+-- A key is that of one canonical group, and look-up distinguishes keys.
 use Rattle.std.proofs.Common.{◌≡◌, ◌∙◌, ℕ, true, nat_eq, List, map, refl, sym, ap, subst, arith}
 use Rattle.std.specs.Cmp.Lexicographic.{pointwise}
 use Rattle.std.specs.Bool.{Decides}

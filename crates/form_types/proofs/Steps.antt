@@ -68,7 +68,7 @@ references-more first (h ∷ groups) g earlier here =
     omega (arith, length-append h (types_by_id groups)) in
     (earlier.0, references-more (first + length h) groups g earlier.1 (rw e at here))
 
--- an id is that of a place of one group
+-- an id is that of a position of one group
 one-group : (groups : List NamedGroup) (a b p q : ℕ) → p < length (get_or groups a []) → q < length (get_or groups b [])
     → first_id groups a + p ≡ first_id groups b + q → a ≡ b
 one-group [] a b p q i j same = absurd (omega arith)
@@ -78,7 +78,7 @@ one-group (g ∷ gs) (suc a) zero p q i j same = absurd (omega (arith, length-ap
 one-group (g ∷ gs) (suc a) (suc b) p q i j same =
     ap suc (one-group gs a b p q i j (omega (arith, length-append g (types_by_id (take a gs)), length-append g (types_by_id (take b gs)))))
 
--- a key stands at one place
+-- a key is at one position
 one-key : (keys : List Canonical) (a b : ℕ) → AllPairs (λ c d. c ≢ d) keys → a < length keys → b < length keys
     → get_or keys a [] ≡ get_or keys b [] → a ≡ b
 one-key keys a b apart i j same =
@@ -106,7 +106,7 @@ module _ {gs : List (Group ℕ ℕ)} {number : ℕ → ℕ} {keys : List Canonic
   group-long : (i : ℕ) (h : i < size gs) → length (get_or groups (st.stands i h).at []) ≡ length (home gs i).members
   group-long i h = ap length (group-is i h) ∙ length-map (canonical number (home gs i)) _ ∙ length-map (home gs i).members _
 
-  -- the place of a type is one of its group
+  -- the position of a type is one of its group
   within : (i : ℕ) (h : i < size gs) → i - (home gs i).start < length (get_or groups (st.stands i h).at [])
   within i h = let w = home-within gs i h in omega (arith, group-long i h, w.from, w.to)
 
@@ -119,7 +119,7 @@ module _ {gs : List (Group ℕ ℕ)} {number : ℕ → ℕ} {keys : List Canonic
       let y = st.stands j k in
       one-key keys x.at y.at st.listed.apart x.below y.below (x.key ∙ same ∙ sym y.key)
 
-  -- the members of a group have numbers in a row
+  -- the members of a group have consecutive numbers
   pub in-row : (i r : ℕ) (h : i < size gs) → Holds (home gs i) r → number r ≡ first_id groups (st.stands i h).at + (r - (home gs i).start)
   in-row i r h holds =
       let again = home-again gs i r h holds in
@@ -147,9 +147,9 @@ module _ {gs : List (Group ℕ ℕ)} {number : ℕ → ℕ} {keys : List Canonic
       ∙ sym (renamed-is number (first_id groups (st.stands i h).at) g (λ r. r < g.start + length g.members)
       (λ r high low. in-row i r h (record { from = low; to = high })) (st.stands i h).near)
 
--- ---- a group comes next, whose members get numbers in a row
+-- ---- a group comes next, whose members get consecutive numbers
 
--- what stands at a place, stands there in longer lists
+-- what is at a position is at the same position in longer lists
 record Stays (keys keys' : List Canonical) (groups groups' : List NamedGroup) (k : ℕ) : Type 0 where
   pub below : k < length keys'
   pub key : get_or keys' k [] ≡ get_or keys k []
@@ -166,7 +166,7 @@ module _ (gs : List (Group ℕ ℕ)) (number : ℕ → ℕ) (keys : List Canonic
   abbrev total : ℕ
   total = length (types_by_id groups)
 
-  -- the place of the key of the group
+  -- the position of the key of the group
   record Comes (keys' : List Canonical) (groups' : List NamedGroup) (first : ℕ) : Type 0 where
     pub at : ℕ
     pub below : at < length keys'
@@ -208,7 +208,7 @@ module _ (gs : List (Group ℕ ℕ)) (number : ℕ → ℕ) (keys : List Canonic
   given-next first count' low fresh up =
       subst (λ n. AreGiven number' n count') (sym (size-more gs m)) (given-more number number' (size gs) total first (length m) st.given low agree fresh count' up)
 
-  -- the groups stay: this one has no types, or its key was met
+  -- the groups are unchanged: this one has no types, or its key was seen
   numbered-same : (first : ℕ) → first ≤ total → ((p : ℕ) → p < length m → number' (size gs + p) ≡ first + p)
       → (0 < length m → Comes keys groups first) → (get' : CanonicalGroup → Option ℕ) → ((q : CanonicalGroup) → get' q ≡ get q) → IsNumbered more number' keys groups get'
   numbered-same first low fresh comes get' same = record {
@@ -288,7 +288,7 @@ module _ (gs : List (Group ℕ ℕ)) (number : ℕ → ℕ) (keys : List Canonic
       last-key : (k : ℕ) → length keys ≡ k → get_or keys' k [] ≡ canonical number next-home
       last-key k e = get_or_push keys (canonical number next-home) [] k e
 
-      -- a place of the lists is an earlier one, or the last
+      -- a position of the lists is an earlier one, or the last
       last : (k : ℕ) → k < length keys' → length keys ≤ k → length keys ≡ k
       last k lt ge = omega (arith, lt, ge, length-append keys (canonical number next-home ∷ []))
 

@@ -17,13 +17,13 @@ use Rattle.form_types.specs.Finding.{FirstIds, first_of, next_key}
 abbrev pub HasFewIds : FirstIds → Type 0
 HasFewIds ids = (key : CanonicalGroup) (first : ℕ) → first_of ids key ≡ Some first → first < 2 ^ 30
 
--- an equal group was met
+-- an equal group was read
 pub record AddsMet (old new : Numbering) (g : NamedGroup) (first : ℕ) : Type 0 where
   pub ids : ids_of new.declared.items ≡ ids_of old.declared.items ++ range_with_len first (length g)
   pub listed : IsListed new.distinct (map group_of old.distinct.groups.items)
   pub met : (q : CanonicalGroup) → first_of new.first_ids q ≡ first_of old.first_ids q
 
--- the group is new, and named by the ids of its own members too
+-- the group is new, and its references to its own members become ids too
 pub record AddsNew (old new : Numbering) (g : NamedGroup) (key : CanonicalGroup) : Type 0 where
   pub ids : ids_of new.declared.items ≡ ids_of old.declared.items ++ range_with_len old.distinct.next (length g)
   pub listed : IsListed new.distinct (map group_of old.distinct.groups.items

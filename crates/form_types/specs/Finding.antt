@@ -1,4 +1,4 @@
--- Groups that were met, while the types of a module are numbered.
+-- Groups that were read, while the types of a module are numbered.
 use Rattle.std.specs.Prelude.{ℕ, List, length, Option, slice_index}
 use Rattle.std.specs.HashMap.{get, HashMap}
 use Rattle.wasm_spec.specs.TypeData.{Group}

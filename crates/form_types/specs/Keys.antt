@@ -9,7 +9,7 @@ use Rattle.form_types.specs.Placed.{place_of}
 use Rattle.form_types.specs.Ids.{id_of}
 use Rattle.form_types.specs.declared.canonical.CanonicalGroup.{CanonicalGroup}
 
--- a place in the group, or the id of an earlier type
+-- a position in the group, or the id of an earlier type
 abbrev pub index_of : Target ℕ → UnpackedIndex
 index_of (Inside place) = RecGroup place
 index_of (Earlier id) = Id (id_of id)
@@ -25,7 +25,7 @@ group_key g = record { codes = group_codes g; references = map index_of (group_e
 abbrev pub key_of : CanonicalGroup → GroupKey
 key_of key = record { codes = key.frame.items; references = key.references.items }
 
--- what an index in a group that starts at a place names
+-- what an index names in a group that starts at a position
 abbrev pub canonical_index : List ℕ → ℕ → UnpackedIndex → UnpackedIndex
 canonical_index ids start index = index_of (target (slice_index ids) start (place_of index))
 

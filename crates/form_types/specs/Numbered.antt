@@ -10,7 +10,7 @@ use Rattle.form_types.specs.Placed.{placed_groups, named}
 abbrev pub first_id : List NamedGroup → ℕ → ℕ
 first_id groups number = length (types_by_id (take number groups))
 
--- a declared type that has an id, and its group, stand in a list of types: the group in which each
+-- a declared type that has an id, and its group, are in a list of types: the group in which each
 -- reference is the id of what it names
 pub record HasItsId (t : TypesData) (declared : Home) (place id : ℕ) : Type 0 where
   pub number : ℕ
@@ -21,10 +21,10 @@ pub record HasItsId (t : TypesData) (declared : Home) (place id : ℕ) : Type 0 
 -- the distinct types of a module by ids
 pub record AreNumbered (m : Module) (t : TypesData) : Type 0 where
   pub each : length t.declared ≡ length (plain.types m)
-  -- two declared types have one id exactly where they are equal by group and place
+  -- two declared types have one id exactly where they are equal by group and position
   pub exact : (i j : ℕ) → i < length (plain.types m) → j < length (plain.types m)
       → (slice_index t.declared i ≡ slice_index t.declared j) ↔ SameType (placed_groups m) (placed_groups m) i j
-  -- the members of a group have ids in a row
+  -- the members of a group have consecutive ids
   pub row : (i : ℕ) → i < length (plain.types m)
       → slice_index t.declared i ≡ slice_index t.declared (home (placed_groups m) i).start + (i - (home (placed_groups m) i).start)
   -- the group of each declared type is the group at its id

@@ -1,4 +1,5 @@
--- The groups of a module, in which a reference is a place in the joined list, and the same groups by ids.
+-- The groups of a module, in which a reference is a position in the joined list, and the same
+-- groups by ids.
 use Rattle.std.specs.Prelude.{ℕ, List, map, slice_index}
 use Rattle.wasm_spec.specs.declared.types.UnpackedIndex.{UnpackedIndex}
 use Rattle.wasm_spec.specs.declared.types.UnpackedIndex.TheVariants.{Module, RecGroup, Id}
@@ -7,7 +8,7 @@ use Rattle.wasm_spec.specs.Module as plain
 use Rattle.form_types.specs.Ids.{id_of}
 use Rattle.form_types.specs.Types.{NamedGroup}
 
--- the place of what an index names; an index that was read is that of the module
+-- the position of what an index names; an index that was read is that of the module
 abbrev pub place_of : UnpackedIndex → ℕ
 place_of (Module place) = place
 place_of (RecGroup place) = place
@@ -19,7 +20,7 @@ placed g = map_group place_of place_of g
 abbrev pub placed_groups : plain.Module → List (Group ℕ ℕ)
 placed_groups m = map placed (plain.groups m)
 
--- the id of the type at a place
+-- the id of the type at a position
 abbrev pub id_at : List ℕ → ℕ → UnpackedIndex
 id_at declared place = Id (id_of (slice_index declared place))
 

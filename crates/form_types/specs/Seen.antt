@@ -1,4 +1,4 @@
--- What stands before a group.
+-- The types before a group.
 use Rattle.std.specs.Prelude.{ℕ, List, map}
 use Rattle.wasm_spec.specs.declared.types.CoreTypeId.{CoreTypeId}
 

@@ -1,4 +1,4 @@
--- The groups of a module's types, numbered as they are taken.
+-- The groups of a module's types, numbered as they are read.
 use Rattle.std.specs.Prelude.{◌≡◌, ◌≢◌, ◌↔◌, ℕ, ◌+◌, ◌-◌, ◌^◌, ◌<◌, ◌≤◌, List, [], length, get_or, map, Option, Some, None, All, IsTrue, slice_index}
 use Rattle.std.specs.List.{flat_map, AllPairs}
 use Rattle.wasm_spec.specs.declared.types.UnpackedIndex.{UnpackedIndex}
@@ -61,7 +61,7 @@ pub record Stands (keys : List Canonical) (groups : List NamedGroup) (number : �
   pub number_is : number i ≡ first_id groups at + (i - g.start)
   pub near : NearIn g
 
--- what is noted of a key: the first id of its group, or that there is none
+-- what is recorded for a key: the first id of its group, or that there is none
 abbrev pub TellsAt : List Canonical → List NamedGroup → GroupKey → Option ℕ → Type 0
 TellsAt keys groups key (Some first) = (k : ℕ) × (k < length keys) × (key ≡ group_key (get_or keys k [])) × (first ≡ first_id groups k)
 TellsAt keys groups key None = (k : ℕ) → k < length keys → key ≡ group_key (get_or keys k []) → ⊥
@@ -83,7 +83,7 @@ pub record Built (done : List NamedGroup) (n : Numbering) : Type 0 where
   pub counted : length (ids_of n.declared.items) ≡ length (types_of (places done))
   pub listed : IsListed n.distinct (map group_of n.distinct.groups.items)
 
--- ---- what was taken
+-- ---- the groups that were taken
 
 -- these groups were taken: where each type names what it may, they are numbered, and are few and short
 pub record Took (n : Numbering) (groups : List NamedGroup) : Type 0 where

@@ -99,15 +99,15 @@ fn supertype_is_below(bound: usize, ty: &SubType) -> bool
     }
 }
 
-/// Whether a type names types before the end of its group alone, and has a supertype before itself.
+/// Whether a type names only types before the end of its group, and has a supertype before itself.
 fn names_below(end: usize, index: usize, ty: &SubType) -> bool
     ensures { IsTrue result ↔ NamesBelow (record { type = sub_type_of ty.now; index = index; group_end = end }) }
 {
     kind_is_below(end, &ty.composite) && supertype_is_below(index, ty)
 }
 
-/// Whether the members of a group, the first with the index `start`, name types before its end
-/// alone, and have supertypes before themselves.
+/// Whether the members of a group, the first with the index `start`, name only types before its
+/// end, and have supertypes before themselves.
 pub fn members_name_below(start: usize, types: &[SubType]) -> bool
     requires { start + length types.now < 2 ^ 30 }
     ensures { IsTrue result ↔ All NamesBelow (declared_from (start + length types.now) start (map sub_type_of types.now)) }

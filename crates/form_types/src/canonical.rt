@@ -1,4 +1,4 @@
-//! The keys by which groups are told apart.
+//! The keys that distinguish groups.
 
 ghost use Rattle.std.specs.Prelude.{◌≡◌, ◌+◌, ◌<◌, ◌≤◌, [], ◌∷◌, ◌++◌, map, IfOk, OnOk, Option, is_some, vec_len, vec_capacity};
 ghost use Rattle.std.specs.List.{flat_map};
@@ -20,9 +20,9 @@ use wasm_spec::{FieldType, HeapType, StorageType, UnpackedIndex, ValType};
 
 /// A group as bytes and references.
 ///
-/// As it is looked up, a reference is a place in the group or the id of an earlier type: groups
-/// that are equal by what came before them have one key. As it is made first, a reference is that
-/// which was read.
+/// For look-up, a reference is a position in the group or the id of an earlier type: groups that
+/// are equal, given the types before them, have one key. When the key is first made, a reference is
+/// the one that was read.
 #[derive(Drop, PartialEq, Eq)]
 pub struct CanonicalGroup {
     /// All of the group but what its references name.
@@ -31,7 +31,7 @@ pub struct CanonicalGroup {
     pub references: Vec<UnpackedIndex>,
 }
 
-/// The frame is hashed at once, and not byte by byte.
+/// The frame is hashed in one write, not byte by byte.
 impl Hash for CanonicalGroup {
     ghost hash_input = { λ g. (g.frame.items ∷ []) ++ fed.slice ⟦<UnpackedIndex as Hash>⟧.hash_input g.references.items };
 
@@ -55,7 +55,7 @@ impl CanonicalGroup {
         }
     }
 
-    /// Forgets all members.
+    /// Removes all members.
     pub fn clear(&mut self)
         ensures { key_of self.new ≡ record { codes = []; references = [] } }
     {
@@ -63,7 +63,7 @@ impl CanonicalGroup {
         self.references.clear();
     }
 
-    /// An equal key, with no more room than it needs.
+    /// An equal key, with no more capacity than it needs.
     pub fn copied(&self, alloc: Global) -> Result<CanonicalGroup, AllocError>
         ensures { IfOk result (λ copy. key_of copy ≡ key_of self.now) }
     {
@@ -145,7 +145,7 @@ impl CanonicalGroup {
         Ok(())
     }
 
-    /// Adds a value, for which there is room.
+    /// Adds a value, for which there is capacity.
     fn add_value(&mut self, value: &ValType) -> Result<(), AllocError>
         requires { vec_len self.old.frame < vec_capacity self.old.frame }
         ensures adds { OnOk result (Adds self.old self.new (value_code (value_of value.now) ∷ []) (value_edges (λ i. i) (value_of value.now))) }
@@ -171,7 +171,7 @@ impl CanonicalGroup {
         Ok(())
     }
 
-    /// Adds a field, for which there is room.
+    /// Adds a field, for which there is capacity.
     fn add_field(&mut self, field: &FieldType) -> Result<(), AllocError>
         requires { vec_len self.old.frame + 2 ≤ vec_capacity self.old.frame }
         ensures adds { OnOk result (Adds self.old self.new (field_codes (field_of field.now)) (field_edges (λ i. i) (field_of field.now))) }

@@ -1,4 +1,4 @@
-//! The groups of a form are taken, copied.
+//! The groups of a form are copied and numbered.
 
 ghost use Rattle.std.specs.Prelude.{◌≡◌, map, IfOk, OnOk};
 ghost use Rattle.wasm_spec.specs.Module.{groups};
@@ -44,7 +44,7 @@ fn copied_group(alloc: Global, group: &RecGroup) -> Result<RecGroup, AllocError>
     Ok(RecGroup { types })
 }
 
-/// Copies of some groups are taken.
+/// Passes copies of some groups to the numbering.
 fn take_copies(
     alloc: Global,
     groups: &[RecGroup],
@@ -59,7 +59,7 @@ fn take_copies(
     Ok(())
 }
 
-/// The groups that a form lists are taken.
+/// The numbering of the groups of a form.
 pub fn numbering_of_form(alloc: Global, form: &Form<'_>) -> Result<Numbering, AllocError>
     ensures { IfOk result (λ n. Took n (groups (module_of form.now))) }
 {

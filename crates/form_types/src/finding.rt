@@ -1,4 +1,4 @@
-//! The groups that were met, by their keys.
+//! The groups that were read, by their keys.
 
 ghost use Rattle.std.specs.Prelude.{◌≡◌, ◌+◌, ◌<◌, ◌^◌, ◌++◌, ◌∷◌, [], IfOk, OnOk, MatchOption, Some, cond, length, map};
 ghost use Rattle.std.specs.Hash.DefaultHasher as sip;
@@ -21,7 +21,7 @@ use std::collections::HashMap;
 use std::hash::{DefaultHasher, Hasher};
 use wasm_spec::{CoreTypeId, UnpackedIndex};
 
-/// The first id of each group that was met, by its key.
+/// The first id of each group that was read, by its key.
 pub type FirstIds = HashMap<CanonicalGroup, u32, Seeded>;
 
 /// A digest of the bytes that spell a module's types, from which hashes begin: groups that are
@@ -34,7 +34,7 @@ pub fn seed_of(wasm: &[u8]) -> u64
     digest.finish()
 }
 
-/// The key of a group that comes next, in `key`, which is no longer asked for.
+/// Writes the key of the next group to `key`, whose contents are no longer needed.
 pub fn next_key(
     key: &mut CanonicalGroup,
     ids: &[CoreTypeId],
@@ -60,7 +60,7 @@ fn name_targets(references: &mut Vec<UnpackedIndex>, seen: Seen<'_>)
     }
 }
 
-/// What a group of this key was given, or else it is given `next`.
+/// The first id of the group that has this key; if there is none, `next` is recorded for the key.
 pub fn find_or_note(
     alloc: Global,
     first_ids: &mut FirstIds,
@@ -79,7 +79,7 @@ pub fn find_or_note(
     Ok(None)
 }
 
-/// Adds `count` ids in a row.
+/// Adds `count` consecutive ids.
 #[tactic(auto, using(crate::proofs::Rows::row_more))]
 pub fn push_row(ids: &mut Vec<CoreTypeId>, first: u32, count: usize) -> Result<(), AllocError>
     requires { first + count < 2 ^ 32 }

@@ -1,4 +1,4 @@
-//! The list of types of a module whose groups were taken.
+//! The list of types of a module whose groups were numbered.
 
 ghost use Rattle.std.specs.Prelude.{◌≡◌, ◌↔◌, All, IsTrue, IfOk, IfSome, is_some};
 ghost use Rattle.wasm_spec.specs.Module.{Module, HasFewEntries, groups};

@@ -1,7 +1,7 @@
 //! Numbers for the types of a module, for the crates that check and intern them: equal types have
 //! one id.
 //!
-//! Two declared types have one `CoreTypeId` exactly where they are equal by group and place. Ids
+//! Two declared types have one `CoreTypeId` exactly where they are equal by group and position. Ids
 //! count distinct types from 0 on, in the order in which they first occur.
 //!
 //! ```

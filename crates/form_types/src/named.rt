@@ -67,7 +67,7 @@ fn named_field(ids: &[CoreTypeId], field: FieldType) -> FieldType
     }
 }
 
-/// The values of a list are named where they stand.
+/// References in the values of a list become ids, in place.
 fn name_values(ids: &[CoreTypeId], values: &mut [ValType])
     ensures { map value_of values.new ≡ map (map_value (named_index (ids_of ids.now))) (map value_of values.old) }
 {

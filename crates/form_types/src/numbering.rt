@@ -23,22 +23,22 @@ use wasm_spec::CoreTypeId;
 /// read has none.
 const MOST_TYPES: usize = 1073741823;
 
-/// The types of a module, numbered as their groups are taken.
+/// The types of a module, numbered as their groups are read.
 #[derive(Drop)]
 pub struct Numbering {
     pub(crate) first_ids: FirstIds,
     pub(crate) distinct: Distinct,
     pub(crate) declared: Vec<CoreTypeId>,
     pub(crate) seed: u64,
-    /// The key of the group that was taken last; its lists are used again.
+    /// The key of the last group; its lists are reused.
     pub(crate) key: CanonicalGroup,
-    /// Whether each type so far names types before the end of its group alone, and its supertype
-    /// stands before it. From the first that does not no type is numbered.
+    /// Whether each type so far names only types before the end of its group, and its supertype is
+    /// before it. From the first type that does not, no type is numbered.
     pub(crate) names_below: bool,
 }
 
 impl Numbering {
-    /// No group is taken. `wasm` are the bytes of the module, by whose types hashes are seeded.
+    /// A numbering of no groups. `wasm` is the bytes of the module, whose types seed the hashes.
     pub fn new(alloc: Global, wasm: &[u8]) -> Numbering
         ensures { Took result [] }
     {

@@ -1,4 +1,4 @@
-//! What stands before a group, and what a reference names by it.
+//! The types before a group, and what a reference names, given these types.
 
 ghost use Rattle.std.specs.Prelude.{◌≡◌, slice_index};
 ghost use Rattle.form_types.specs.Keys.{canonical_index};
@@ -8,14 +8,14 @@ ghost use Rattle.form_types.specs.Placed.{place_of};
 
 use wasm_spec::{CoreTypeId, UnpackedIndex};
 
-/// What stands before a group: the ids of the types, and how many they are.
+/// The types before a group: their ids, and how many there are.
 #[derive(Clone, Copy)]
 pub struct Seen<'i> {
     pub ids: &'i [CoreTypeId],
     pub start: u32,
 }
 
-/// The id of the type at a place; 0 past the last.
+/// The id of the type at a position; 0 past the last.
 pub fn id_at(ids: &[CoreTypeId], place: u32) -> CoreTypeId
     ensures { result ≡ id_of (slice_index (ids_of ids.now) place) }
 {
@@ -25,7 +25,7 @@ pub fn id_at(ids: &[CoreTypeId], place: u32) -> CoreTypeId
     }
 }
 
-/// The place that an index names.
+/// The position that an index names.
 pub fn place_of(index: UnpackedIndex) -> u32
     ensures { result ≡ place_of index }
 {
@@ -37,7 +37,7 @@ pub fn place_of(index: UnpackedIndex) -> u32
 }
 
 impl Seen<'_> {
-    /// What an index names: a place in the group, or the id of an earlier type.
+    /// What an index names: a position in the group, or the id of an earlier type.
     pub fn target(self, index: UnpackedIndex) -> UnpackedIndex
         ensures { result ≡ canonical_index (ids_of self.entry.ids.now) self.entry.start index }
     {

@@ -14,8 +14,8 @@ use wasm_spec::CoreTypeId;
 
 /// The types of a module, each once, and the id of each declared type.
 ///
-/// The distinct groups stand in the order of their first occurrence; ids number their members from
-/// 0 on, through all groups. Types name each other by ids.
+/// The distinct groups are in the order of their first occurrence; ids number their members from 0
+/// on, through all groups. Types name each other by ids.
 #[derive(Drop)]
 pub struct Types {
     pub(crate) validator: ValidatorId,
@@ -46,7 +46,7 @@ impl Types {
     }
 
     /// A digest of the module's groups, from which hashers begin whose keys come from the same
-    /// module. No clause says more of it. (This project's own.)
+    /// module. No clause says more about it. (This project's own.)
     pub fn seed(&self) -> u64 {
         self.seed
     }

@@ -42,7 +42,7 @@ tells_defaults false fs tells = by_cases (list_all has_default (map field_of fs)
 
 -- ---- one type after another
 
--- the next type is noted
+-- the next type is recorded
 pub noted_next : (ds : List Declared) (i : ℕ) → i < length ds
     → get_or (map (λ (d : Declared). defaults_of d.type.composite.inner) ds) i false
     ≡ unwrap_or (option_map defaults_of (option_map (λ (d : Declared). d.type.composite.inner) (slice_get ds i))) false

@@ -36,7 +36,7 @@ module _ (l : Lists) (visible : List GlobalType) where
   leads_split [] rest a c all = (a, refl, all)
   leads_split (op ∷ ops) rest a c all = let more = leads_split ops rest all.0 c all.2 in (more.0, (all.0, all.1, more.1), more.2)
 
-  -- one operator more, of which something is taken and something pushed
+  -- one operator more, which pops something and pushes something
   pub leads_more : (ops : List Operator) (k : ℕ) (d op : Operator) (before taken after : List Class) (pushed : Class) → k < length ops → op ≡ get_or ops k d
       → Leads l visible (take k ops) [] before → Taken (signature l visible op) before taken (Some pushed) → after ≡ taken ++ pushed ∷ []
       → Leads l visible (take (k + 1) ops) [] after
@@ -50,7 +50,7 @@ module _ (l : Lists) (visible : List GlobalType) where
         has_pushed = is ∙ ap (λ (c : Class). taken ++ c ∷ []) took.3;
       }))
 
-  -- an operator that cannot stand there
+  -- an operator that is not typed there
   pub leads_fail : (ops : List Operator) (k : ℕ) (d op : Operator) (before taken after : List Class) → k < length ops → op ≡ get_or ops k d
       → Leads l visible (take k ops) [] before → Taken (signature l visible op) before taken None → Leads l visible ops [] after → ⊥
   leads_fail ops k d op before taken after lt at first fails all =

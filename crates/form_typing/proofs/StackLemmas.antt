@@ -1,4 +1,4 @@
--- Values taken from the end of a stack.
+-- Values that are popped from a stack.
 use Rattle.std.proofs.Common.{◌≡◌, map, ℕ, ◌+◌, ◌<◌, Bool, true, false, List, [], ◌∷◌, ◌++◌, length, take, drop, get_or, Option, None, Some, refl, sym, ap, ◌∙◌, append_assoc, arith}
 use Rattle.std.specs.Option.{option_and_then}
 use Rattle.std.proofs.lemmas.List.{append-nil, append_cancel_right, drop_more, take-append-drop, length-map, get_or-map}
@@ -9,7 +9,7 @@ use Rattle.rule_spec.specs.declared.classes.Class.{Class}
 use Rattle.rule_spec.specs.Typing.{Signature, field_class, gives}
 use Rattle.form_typing.specs.Stack.{Popped, Taken}
 
--- values taken below others
+-- values that are popped below others
 pub below : (xs ys old mid new : List Class) → old ≡ mid ++ ys → mid ≡ new ++ xs → old ≡ new ++ (xs ++ ys)
 below xs ys old mid new first second = first ∙ ap (λ (l : List Class). l ++ ys) second ∙ append_assoc new xs ys
 
@@ -47,7 +47,7 @@ pub Popped-false : (xs old new : List Class) (b : Bool) → b ≡ false → Popp
 Popped-false xs old new true is popped = absurd (cc)
 Popped-false xs old new false is popped = popped
 
--- nothing is taken where there is no signature
+-- nothing is popped where there is no signature
 pub takes_unsigned : (s : Option Signature) (old new : List Class) → s ≡ None → Taken s old new None
 takes_unsigned s old new is = λ other also rest popped. let two : Some other ≡ None = sym also ∙ is in absurd (cc)
 
@@ -64,12 +64,12 @@ field_at fields i lt =
 pub fields_lt : (fields : List FieldType) (i : ℕ) → i < length fields → i < length (map field_class (map field_of fields))
 fields_lt fields i lt = omega (arith, length-map fields field_of, length-map (map field_of fields) field_class)
 
--- the upper values are taken, and then the lower ones or not
+-- the upper values are popped, and then the lower ones or not
 pub Popped-then : (xs ys old mid new : List Class) (b : Bool) → old ≡ mid ++ ys → Popped xs mid new b → Popped (xs ++ ys) old new b
 Popped-then xs ys old mid new true is popped = below xs ys old mid new is popped
 Popped-then xs ys old mid new false is popped = lower_fails xs ys old mid is popped
 
--- the upper values are not there
+-- the upper values are missing
 pub Popped-upper : (xs ys old new : List Class) (b : Bool) → b ≡ false → Popped ys old new b → Popped (xs ++ ys) old new b
 Popped-upper xs ys old new true is popped = absurd (cc)
 Popped-upper xs ys old new false is popped = upper_fails xs ys old popped

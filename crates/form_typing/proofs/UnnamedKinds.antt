@@ -1,4 +1,4 @@
--- What typing asks of kinds does not depend on what references name.
+-- What typing checks of kinds does not depend on what references name.
 use Rattle.std.proofs.Common.{◌≡◌, ◌&&◌, List, [], ◌∷◌, map, Option, Some, None, refl, ap}
 use Rattle.std.specs.List.{list_all}
 use Rattle.std.specs.Option.{option_map, option_and_then}

@@ -88,7 +88,7 @@ fn type_has_defaults(lists: &Lists<'_, '_>, index: u32) -> bool
 
 /// Of each declared type, whether it is a struct type of which each field has a default.
 ///
-/// Each type is looked at once, however many expressions name it.
+/// Each type is checked once, however many expressions name it.
 pub fn struct_defaults(alloc: Global, lists: &Lists<'_, '_>) -> Result<Vec<bool>, AllocError>
     ensures { IfOk result (λ defaults. defaults.items ≡ defaults_of_types (lists_of lists.now)) }
 {

@@ -1,4 +1,4 @@
-//! The constant expressions of a module, each of the class of its place.
+//! The constant expressions of a module, each of the class that its place requires.
 
 ghost use Rattle.std.specs.Prelude.{◌≡◌, ◌↔◌, ◌≤◌, take, length, map, All, IsTrue, IfOk};
 ghost use Rattle.std.specs.List.{flat_map};
@@ -22,10 +22,11 @@ use rule_spec::Class;
 use std::alloc::{AllocError, Global};
 use wasm_spec::GlobalType;
 
-/// Whether each constant expression has the class of its place.
+/// Whether each constant expression has the class that its place requires.
 ///
-/// Of globals and segments this is found where they are walked: `globals_hold`, `elements_hold` and
-/// `segments_hold` say it, by `global_is_typed`, `element_is_typed` and `segment_is_typed` of each.
+/// Globals and segments are checked where they are iterated: `globals_hold`, `elements_hold` and
+/// `segments_hold` are the results, by `global_is_typed`, `element_is_typed` and `segment_is_typed`
+/// of each.
 pub fn expressions_hold(
     alloc: Global,
     lists: &Lists<'_, '_>,
@@ -116,9 +117,10 @@ fn table_holds(
 
 // ---- element segments
 
-/// Whether the offset and the items of an element segment have the classes of their places.
+/// Whether the offset and the items of an element segment have the classes that their places
+/// require.
 ///
-/// `defaults` are the types' `struct_defaults`. What `stack` holds does not count.
+/// `defaults` are the types' `struct_defaults`. What `stack` holds has no effect.
 pub fn element_is_typed(
     lists: &Lists<'_, '_>,
     defaults: &[bool],
@@ -211,9 +213,9 @@ fn item_holds(
 
 // ---- data segments
 
-/// Whether the offset of a data segment has the class of its place.
+/// Whether the offset of a data segment has the class that its place requires.
 ///
-/// `defaults` are the types' `struct_defaults`. What `stack` holds does not count.
+/// `defaults` are the types' `struct_defaults`. What `stack` holds has no effect.
 pub fn segment_is_typed(
     lists: &Lists<'_, '_>,
     defaults: &[bool],
@@ -256,7 +258,7 @@ fn memory_offset_holds(
 /// Whether the initialiser of the global that has this index has the class of its type. It sees the
 /// globals of lower index.
 ///
-/// `defaults` are the types' `struct_defaults`. What `stack` holds does not count.
+/// `defaults` are the types' `struct_defaults`. What `stack` holds has no effect.
 pub fn global_is_typed(
     lists: &Lists<'_, '_>,
     defaults: &[bool],

@@ -65,7 +65,7 @@ fn array_at(lists: &Lists<'_, '_>, index: u32) -> Option<FieldType>
 
 // ---- signatures of one form
 
-/// Takes two values of a class.
+/// Pops two values of a class, and returns the class.
 fn join(stack: &mut Vec<Class>, class: Class) -> Option<Class>
     ensures { Taken (joins class) stack.old.items stack.new.items result }
 {
@@ -76,7 +76,7 @@ fn join(stack: &mut Vec<Class>, class: Class) -> Option<Class>
     }
 }
 
-/// Takes a value, and gives a reference.
+/// Pops a value, and returns the class of references.
 fn refer_to_one(stack: &mut Vec<Class>, class: Class) -> Option<Class>
     ensures { Taken (refers_to (class ∷ [])) stack.old.items stack.new.items result }
 {
@@ -204,7 +204,7 @@ fn array_new_fixed(
 }
 
 /// `defaults` says of each type whether it is a struct type of which each field has a default: the
-/// fields are not looked at again.
+/// fields are not checked again.
 fn struct_new_default(lists: &Lists<'_, '_>, defaults: &[bool], ty: u32) -> Option<Class>
     requires { defaults.now ≡ defaults_of_types (lists_of lists.now) }
     ensures { option_and_then gives result ≡ default_signature (kind_at (lists_of lists.now) ty) }
@@ -217,7 +217,7 @@ fn struct_new_default(lists: &Lists<'_, '_>, defaults: &[bool], ty: u32) -> Opti
 
 // ---- all operators
 
-/// Takes what the operator takes, and gives the class of what it pushes.
+/// Pops what the operator takes, and returns the class of what it pushes.
 pub fn take_operands(
     lists: &Lists<'_, '_>,
     defaults: &[bool],

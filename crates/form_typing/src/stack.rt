@@ -1,4 +1,4 @@
-//! Values that operators take from the stack, each by its class.
+//! Values that operators pop from the stack, each by its class.
 
 ghost use Rattle.std.specs.Prelude.{◌≡◌, ◌∷◌, [], map, replicate};
 ghost use Rattle.wasm_spec.specs.TypeData.{field_of};
@@ -9,7 +9,7 @@ use crate::classes::field_class;
 use rule_spec::Class;
 use wasm_spec::FieldType;
 
-/// Takes the top value, which must have this class.
+/// Pops the top value, which must have this class.
 pub fn pop(stack: &mut Vec<Class>, class: Class) -> bool
     ensures { Popped (class ∷ []) stack.old.items stack.new.items result }
 {
@@ -19,14 +19,14 @@ pub fn pop(stack: &mut Vec<Class>, class: Class) -> bool
     }
 }
 
-/// Takes two values, the second from the top.
+/// Pops two values, the second from the top.
 pub fn pop_two(stack: &mut Vec<Class>, first: Class, second: Class) -> bool
     ensures { Popped (first ∷ second ∷ []) stack.old.items stack.new.items result }
 {
     pop(stack, second) && pop(stack, first)
 }
 
-/// Takes a value for each field, the last from the top.
+/// Pops a value for each field, the last from the top.
 pub fn pop_fields(stack: &mut Vec<Class>, fields: &[FieldType]) -> bool
     ensures { Popped (map field_class (map field_of fields.now)) stack.old.items stack.new.items result }
 {
@@ -40,7 +40,7 @@ pub fn pop_fields(stack: &mut Vec<Class>, fields: &[FieldType]) -> bool
     true
 }
 
-/// Takes `count` values of one class. The loop ends with the stack, however large the count is.
+/// Pops `count` values of one class. The loop ends with the stack, however large the count is.
 pub fn pop_many(stack: &mut Vec<Class>, count: u32, class: Class) -> bool
     ensures { Popped (replicate count class) stack.old.items stack.new.items result }
 {

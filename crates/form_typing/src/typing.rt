@@ -16,8 +16,8 @@ use wasm_spec::GlobalType;
 /// Whether the expression leads from the empty stack to one value of the class, where these globals
 /// are visible.
 ///
-/// `defaults` are the types' `struct_defaults`. What `stack` holds does not count: it is given so
-/// that all expressions share one list.
+/// `defaults` are the types' `struct_defaults`. What `stack` holds has no effect: it is a parameter
+/// so that all expressions share one list.
 pub fn is_typed(
     lists: &Lists<'_, '_>,
     defaults: &[bool],

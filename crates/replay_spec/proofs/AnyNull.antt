@@ -1,5 +1,5 @@
--- What replay sees of an expression has the values of the expression, and reads the same globals:
--- neither looks at the heap type of a null.
+-- What a plan holds of an expression has the values of the expression, and reads the same globals:
+-- neither depends on the heap type of a null.
 use Rattle.std.proofs.Common.{◌≡◌, ℕ, List, [], ◌∷◌, All, Option, refl, ap}
 use Rattle.std.specs.Option.{option_and_then}
 use Rattle.std.proofs.lemmas.List.Elements.{All-map, All-weaker}

@@ -14,7 +14,7 @@ use Rattle.replay_spec.specs.Tables.{expression_cell, AreCells, image_cells, con
 abbrev pub Decided : Type 0 → Type 0
 Decided P = P ⊎ (P → ⊥)
 
--- a part that fails refuses the whole
+-- a statement does not hold where one of its parts does not
 part : {P Q : Type 0} → (Q → P) → Decided P → (P → Decided Q) → Decided Q
 part needs (inl p) more = more p
 part needs (inr none) more = inr (λ q. none (needs q))

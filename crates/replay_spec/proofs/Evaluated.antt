@@ -56,7 +56,7 @@ abbrev class_at : GlobalDef → Class
 class_at d = class_of (value_of d.type.content_type)
 
 module _ (fields : ℕ → ℕ) where
-  -- what is known stays
+  -- known values are unchanged
   stays : (es : List Expression) (known : List Value) (k : ℕ) → k < length known → slice_get (values_after fields known es) k ≡ slice_get known k
   stays [] known k l = refl
   stays (e ∷ es) known k l = grind (arith, length_push, get-front, (stays es (known ++ cell_of known fields e ∷ []) k (omega (arith, length_push known (cell_of known fields e)))))
@@ -163,7 +163,7 @@ module _ (m : Module) (keeps : Keeps m) (imported : List Value) (given : AreImpo
   pub globals-of-class : HaveClasses (all_globals lists imported) lists.global_types
   globals-of-class = set.classes
 
-  -- what an expression that sees some of the globals has a value of
+  -- an expression that sees some of the globals has a value of its class
   value-over : (n : ℕ) (e : Expression) (c : Class) → HasClass lists (take n lists.global_types) e c → HasValue lists (all_globals lists imported) e c
   value-over n e c h = value-of-class lists (take n lists.global_types) (all_globals lists imported) (have-take (all_globals lists imported) lists.global_types n globals-of-class) e c h
 
@@ -173,7 +173,7 @@ module _ (m : Module) (keeps : Keeps m) (imported : List Value) (given : AreImpo
   table-value : (t : TableDef) → HasTypedInitialiser lists t → IfSome t.init (λ e. HasValue lists (all_globals lists imported) e class.Ref)
   table-value t h = grind (arith, value-over)
 
-  -- an entry that stands has what each has
+  -- an entry that exists has what each has
   standing : {X : Type 0} (xs : List X) (i : ℕ) (P Q : X → Type 0) → i < length xs → ((x : X) → P x → Q x) → IfSome (slice_get xs i) P → IsSomeAnd (slice_get xs i) Q
   standing [] i P Q l each h = absurd (omega arith)
   standing (x ∷ xs) zero P Q l each h = each x h

@@ -15,7 +15,7 @@ use Rattle.replay_spec.specs.Tables.{initial_function, kept_initial, image_piece
 use Rattle.replay_spec.proofs.Tight.{within-extent}
 use Rattle.replay_spec.proofs.Decided.{Decided, decided-static, decided-taken}
 
--- ---- lists of the answers of a function
+-- ---- lists of the results of a function
 
 abbrev spread : {X : Type 0} → (ℕ → X) → ℕ → List X
 spread f zero = []
@@ -35,7 +35,7 @@ is-spread f zero i x at = absurd (none-some x at)
 is-spread f (suc n) zero x at = same_Some (f 0) x at
 is-spread f (suc n) (suc i) x at = is-spread (λ k. f (suc k)) n i x at
 
--- ---- the image of contents that are zero from some place on
+-- ---- the image of contents that are zero from some offset on
 
 module _ (c : ℕ → ℕ) where
   one-more : (n : ℕ) → ((q : ℕ) → q < n → c q ≡ 0) → c n ≡ 0 → (q : ℕ) → q < suc n → c q ≡ 0

@@ -33,7 +33,7 @@ module _ (fields : ℕ → ℕ) (n : ℕ) (known later : List Value) (same : (g 
   same-value : (e : Expression) → All (ReadsBelow n) e → cell_of known fields e ≡ cell_of later fields e
   same-value e all = ap (λ o. value_or_null (option_and_then only_value o)) (same-run e [] all)
 
--- ---- writing at the seam
+-- ---- writing where two lists join
 
 set-seam : (pre rest : List Value) (x v : Value) (n : ℕ) → length pre ≡ n → set (pre ++ x ∷ rest) n v ≡ (pre ++ v ∷ []) ++ rest
 set-seam [] rest x v zero e = refl

@@ -1,4 +1,5 @@
--- The phases of what a plan holds of a module are the module's: no value looks at the heap type of a null.
+-- The phases of what a plan holds of a module are the module's: no value depends on the heap type
+-- of a null.
 use Rattle.std.proofs.Common.{◌≡◌, ◌∙◌, ℕ, zero, suc, ◌+◌, List, [], ◌∷◌, ◌++◌, map, Option, None, Some, refl, ap, subst}
 use Rattle.std.specs.Prelude.{slice_get}
 use Rattle.std.specs.Option.{option_map}

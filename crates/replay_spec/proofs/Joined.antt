@@ -32,13 +32,13 @@ positive-power k = pow-le-pow_right {n = 2} (lit< tt) {i = 0} {j = k} (omega ari
 pub whole_pages : (n k e : ℕ) → 2 ^ k ≤ 2 ^ e → n * 2 ^ e ≡ (n * 2 ^ (e - k)) * 2 ^ k
 whole_pages n k e le = grind (arith, pow-le-pow_right, (pow-succ' 2 e), (positive-power e), (pow-add 2 (e - k) k), (mul_assoc n (2 ^ (e - k)) (2 ^ k)), (cases_lt e k))
 
--- the page of a place ends within whole pages
+-- the page of an offset that is within whole pages ends within them
 pub page_end : (place page n : ℕ) → 0 < page → place < n * page → (place / page + 1) * page ≤ n * page
 page_end place page n pos lt = grind (arith, mul-le-mul_right, div-mul-le_self, cases_lt)
 
 -- ---- segments with bytes
 
--- x stands in xs
+-- x is in xs
 abbrev pub Stands : {X : Type 0} → List X → X → Type 0
 Stands xs x = (i : ℕ) × (slice_get xs i ≡ Some x)
 
@@ -50,7 +50,7 @@ stands-filter test (y ∷ ys) (suc i) x at passes = over (stands-filter test ys 
   over s true e = rw e (suc s.0, s.1)
   over s false e = rw e s
 
--- a segment that covers a place is among those with bytes
+-- a segment that covers an offset is among those with bytes
 pub stands-covers : (active : List ActiveSegment) (m place : ℕ) → (c : CoversOn active m place) → Stands (bytes_on m active) c.segment
 stands-covers active m place c =
     let f = c.from in

@@ -17,7 +17,7 @@ get-middle [] after x = refl
 get-middle (b ∷ before) after x = get-middle before after x
 
 module _ (plan : MemoryPlan) where
-  -- the bytes of a segment are the runtime data of its number
+  -- the bytes of a segment are the runtime data of its index
   pub bytes-at : (before after : List (List ℕ)) (bytes : List ℕ) (n : ℕ) → n ≡ length before → plan.runtime ≡ before ++ bytes ∷ after
       → runtime_bytes plan n ≡ bytes
   bytes-at before after bytes n at is = rw (is, at, get-middle before after bytes) refl

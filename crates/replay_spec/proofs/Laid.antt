@@ -52,7 +52,7 @@ last-below [] n object place d lt = refl
 last-below (None ∷ images) n object place d lt = last-below images (n + 1) object place d (omega arith)
 last-below (Some image ∷ images) n object place d lt = grind (arith, item-elsewhere, (last-below images (n + 1) object place d (omega arith)))
 
--- what an image leaves at a place that held d
+-- what an image leaves at an offset that held d
 abbrev pub laid_over : Option MemoryImage → ℕ → ℕ → ℕ → ℕ
 laid_over None object place d = d
 laid_over (Some image) object place d = unwrap_or (item_at object place (image_piece object image)) d

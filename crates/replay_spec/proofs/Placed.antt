@@ -60,7 +60,7 @@ module _ (imports : ℕ) (memories : List ImageMemory) where
   fit-placed imported [] count all = tt
   fit-placed imported (s ∷ ss) count all = grind (arith, fits-placed, all-head, all-tail, (fit-placed imported ss count (all-tail (IsPlaced imports memories) s ss all)))
 
--- a segment of a list covers a place
+-- a segment of a list covers an offset
 pub record CoversOn (active : List ActiveSegment) (memory place : ℕ) : Type 0 where
   pub index : ℕ
   pub segment : ActiveSegment

@@ -51,13 +51,13 @@ module _ (globals : List Value) (fields : ℕ → ℕ) where
         → item_at object place (elements_piece globals fields s) ≡ option_map reference_of (item_at object place (image_piece s))
     mapped-item object place s h = grind (arith, slice_get-map, same-offset, function-cells, value-cells)
 
-    -- cells that taken segments leave are those of the image
+    -- the cells that segments in images leave are those of the image
     taken-cells : (taken : List ActiveElements) → All (MayBeTaken lazy imports tables) taken → (object place : ℕ) (d : Option ℕ)
         → last_item object place (reference_of d) (map (elements_piece globals fields) taken) ≡ reference_of (last_item object place d (map image_piece taken))
     taken-cells [] all object place d = refl
     taken-cells (s ∷ ss) all object place d = grind (arith, mapped-item, All-head, mapped-unwrap, All-tail, (taken-cells ss (All-tail (MayBeTaken lazy imports tables) s ss all) object place (unwrap_or (item_at object place (image_piece s)) d)))
 
--- ---- taken segments fit
+-- ---- segments in images fit
 
 sizes-table : (imported : List (List Value)) (tables : List DefinedTable) (i : ℕ) (t : DefinedTable) → length imported ≤ i
     → slice_get tables (i - length imported) ≡ Some t → table_sizes imported (map (λ t. t.minimum) tables) i ≡ t.minimum
@@ -75,13 +75,13 @@ module _ (globals : List Value) (fields : ℕ → ℕ) (lazy : Bool) (imports : 
   fit-taken [] all = tt
   fit-taken (s ∷ ss) all = grind (arith, fits-taken, All-head, All-tail, (fit-taken ss (All-tail (MayBeTaken lazy imports tables) s ss all)))
 
--- ---- what taken segments leave
+-- ---- what segments in images leave
 
--- what holds of each element of a list holds of the one at a place
+-- what holds of each element of a list holds of the one at a position
 All-at : {X : Type 0} (P : X → Type 0) (xs : List X) (i : ℕ) (x : X) → All P xs → slice_get xs i ≡ Some x → P x
 All-at P xs i x all at = subst P (get_or_from_slice_get xs i x x at) (All-get_or P xs i x (slice_get_within xs i x at) all)
 
--- a piece that is made of an element of a list covers a place
+-- a piece that is made of an element of a list covers a position
 record CoversFrom {X A : Type 0} (f : X → Piece A) (xs : List X) (object place : ℕ) : Type 0 where
   pub index : ℕ
   pub element : X
@@ -101,13 +101,13 @@ past-end taken m place le = grind (arith, (covers-from image_piece taken m place
 
 -- ---- tables that keep no initialiser
 
--- nothing is left past the end of an image
+-- the segments leave nothing past the end of an image
 pub past-image : (lazy : Bool) (taken : List ActiveElements) (m place : ℕ) (t : DefinedTable) → kept_initial lazy t ≡ None → place < t.minimum
     → image_length lazy taken m t ≤ place → last_item m place (initial_function t.initial) (map image_piece taken) ≡ None
 past-image lazy taken m place t keeps within le = grind (arith, cond-true, cond-false, past-end)
 
 module _ (globals : List Value) (fields : ℕ → ℕ) (lazy : Bool) (imports : ℕ) (tables : List DefinedTable) (taken : List ActiveElements) (all : All (MayBeTaken lazy imports tables) taken) where
-  -- what a taken segment on a table says of it
+  -- what a segment in the image of a table says about the table
   begins-on : (m place : ℕ) (t : DefinedTable) → slice_get tables (m - imports) ≡ Some t → Covers m place (map (elements_piece globals fields) taken)
       → kept_initial lazy t ≡ None
   begins-on m place t at c =

@@ -1,4 +1,4 @@
--- The longest beginning is one.
+-- There is only one longest prefix.
 use Rattle.std.proofs.Common.{◌≡◌, List, [], ◌∷◌, ◌++◌, ℕ, Bool, All, refl, sym, ◌∙◌}
 use Rattle.replay_spec.specs.Elements.{ActiveElements, DefinedTable}
 use Rattle.replay_spec.specs.Tables.{MayBeTaken, TakesPrefix}

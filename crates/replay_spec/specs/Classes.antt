@@ -1,4 +1,4 @@
--- The classes of values, and what coarse typing speaks of (core specification, 4.2, runtime
+-- The classes of values, and what coarse typing refers to (core specification, 4.2, runtime
 -- structure: values).
 use Rattle.std.specs.Prelude.{◌≡◌, ℕ, ◌^◌, ◌<◌, List, [], length, unwrap_or, slice_get, Some}
 use Rattle.wasm_spec.specs.declared.entities.GlobalType.{GlobalType}

@@ -57,7 +57,7 @@ module _ (globals : List Value) (fields : ℕ → ℕ) where
   initial_cell None = Ref Null
   initial_cell (Some e) = cell_of e
 
-  -- the first cells of the defined table that stands there, if one does
+  -- what the cells of a defined table hold at first, and null where there is no table
   abbrev pub first_cell : Option DefinedTable → Value
   first_cell None = Ref Null
   first_cell (Some t) = initial_cell t.initial
@@ -66,8 +66,8 @@ module _ (globals : List Value) (fields : ℕ → ℕ) where
 abbrev pub table_sizes : List (List Value) → List ℕ → ℕ → ℕ
 table_sizes imported defined i = slice_index (map length imported ++ defined) i
 
--- an imported table holds its contents at first; of a defined one, by its number among those, the
--- cells are given
+-- an imported table holds its contents at first; the cells of a defined one are given by its index
+-- among the defined ones
 abbrev pub table_base : List (List Value) → (ℕ → ℕ → Value) → ℕ → ℕ → Value
 table_base imported defined i place =
     if nat_lt i (length imported) then value_or_null (slice_get (unwrap_or (slice_get imported i) []) place) else defined (i - length imported) place
@@ -82,7 +82,7 @@ elements_phase globals fields imported tables active = record {
 
 -- ---- of a module
 
--- a module's items; their type tells nothing of the cells
+-- a module's items; their type says nothing about the cells
 abbrev pub items_of_element : ElementItems → Items
 items_of_element (read.Functions indices) = Functions indices
 items_of_element (read.Expressions type items) = Expressions items

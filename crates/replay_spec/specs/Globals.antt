@@ -21,19 +21,19 @@ abbrev pub values_after : (ℕ → ℕ) → List Value → List Expression → L
 values_after fields known [] = known
 values_after fields known (e ∷ es) = values_after fields (known ++ cell_of known fields e ∷ []) es
 
--- an operator reads only globals of lower number
+-- an operator reads only globals of lower index
 abbrev pub ReadsBelow : ℕ → Operator → Type 0
 ReadsBelow n (GlobalGet g) = g < n
 ReadsBelow n _ = Unit {0}
 
--- each initialiser reads only globals before its own; the first has that number
+-- each initialiser reads only globals before its own; the first has that index
 abbrev pub ReadEarlier : ℕ → List Expression → Type 0
 ReadEarlier n [] = Unit {0}
 ReadEarlier n (e ∷ es) = All (ReadsBelow n) e × ReadEarlier (n + 1) es
 
 -- ---- of a plan
 
--- what a plan says of the defined globals, by their numbers among those: the values that are known
+-- what a plan says of the defined globals, by their indices among those: the values that are known
 -- before any code runs, and the initialisers that are kept
 pub record GlobalPlan : Type 0 where
   pub count : ℕ

@@ -31,7 +31,7 @@ size_of memory = memory.pages * 2 ^ memory.page_log2
 
 -- ---- the static image rule
 
--- a number of the kind of a memory's indices
+-- the number in a value of a memory's index type
 abbrev pub index_of : Bool → Value → Option ℕ
 index_of false (I32 n) = Some n
 index_of true (I64 n) = Some n
@@ -97,12 +97,12 @@ pub record IsStatic (options : ImageOptions) (imports : ℕ) (memories : List Im
 
 -- ---- the image of a memory
 
--- bytes that lie in a memory from a place on
+-- bytes that are in a memory from an offset on
 pub record MemoryImage : Type 0 where
   pub start : ℕ
   pub bytes : List ℕ
 
--- what segments leave at a place of a memory of zeros; their offsets are constants
+-- what segments leave at an offset of a memory of zeros; their offsets are constants
 abbrev pub written_on : List ActiveSegment → ℕ → ℕ → ℕ
 written_on active memory place = last_item memory place 0 (map (piece_of offset_of) active)
 
@@ -137,7 +137,7 @@ pub record AreImages (page memories : ℕ) (active : List ActiveSegment) (images
 
 -- ---- the plan
 
--- the map: each image's place and its number among the runtime data
+-- the map: each image's offset and its index among the runtime data
 abbrev pub image_map : ℕ → List (Option MemoryImage) → List (Option (ℕ × ℕ))
 image_map index [] = []
 image_map index (None ∷ images) = None ∷ image_map index images
@@ -183,11 +183,11 @@ pub record IsMemoryPlan (options : ImageOptions) (imports : ℕ) (memories : Lis
 
 -- ---- how large an image is
 
--- every byte that is not zero stands from low up to high
+-- every byte that is not zero is from low up to high
 abbrev pub IsWithin : (ℕ → ℕ) → ℕ → ℕ → Type 0
 IsWithin contents low high = (place : ℕ) → contents place ≢ 0 → (low ≤ place) × (place < high)
 
--- an image of these segments on a memory is whole pages within it, has the contents, lies in any
+-- an image of these segments on a memory is whole pages within it, has the contents, is within any
 -- run of whole pages that holds every byte that is not zero, and is at most two pages longer than
 -- twice the bytes, or than what is always made
 pub record IsTight (options : ImageOptions) (memory : ImageMemory) (contents : ℕ → ℕ) (ss : List ActiveSegment) (image : MemoryImage) : Type 0 where

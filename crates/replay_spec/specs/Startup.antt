@@ -12,14 +12,14 @@ pub data Startup : Type 0 where
   -- there is nothing to run
   Never : Startup
   Always : Startup
-  -- where a memory does not begin as its image already
+  -- where a memory does not already begin as its image
   IfMemoriesNeedInit : Startup
 
 abbrev pub is_empty : {A : Type 0} → List A → Bool
 is_empty [] = true
 is_empty (x ∷ xs) = false
 
--- ---- the six causes why it always runs: lists of what is left to be done
+-- ---- the six causes why it always runs: lists of what remains to be done
 
 -- the initialisers of globals that have no constant value
 abbrev pub kept_globals : List GlobalDef → List Expression
@@ -53,12 +53,12 @@ has_no_image plan = list_all is_none plan.images
 
 -- ---- the startup rule
 
--- it always runs where a cause stands; else where memories need their images; else never
+-- it always runs where there is a cause; else where memories need their images; else never
 abbrev pub startup_of : Lists → TablePlan → MemoryPlan → Startup
 startup_of l tables memories =
     if leaves_nothing l && keeps_no_table tables && keeps_no_data memories then (if has_no_image memories then Never else IfMemoriesNeedInit) else Always
 
--- ---- how the plan comes to it: it is never lowered
+-- ---- how the plan reaches it: it is never lowered
 
 -- before tables and memories are planned
 abbrev pub first_startup : Lists → Startup

@@ -39,7 +39,7 @@ integer_of (I32 n) = Some n
 integer_of (I64 n) = Some n
 integer_of _ = None
 
--- the number of an offset with a constant value of an integer class
+-- the value, as a number, of an offset with a constant value of an integer class
 abbrev pub constant_place : Expression → Option ℕ
 constant_place e = option_and_then integer_of (const_value e)
 
@@ -69,9 +69,9 @@ is_imaged_from_start lazy t = lazy && is_some (initial_function t.initial) && na
 abbrev pub kept_initial : Bool → DefinedTable → Option Expression
 kept_initial lazy t = if is_imaged_from_start lazy t then None else t.initial
 
--- a segment may be taken: it is on a defined table of functions that keeps no initialiser, its
--- offset is a constant, its items are cells, and it ends within the table and within the largest
--- image
+-- a segment may be in an image: it is on a defined table of functions that keeps no initialiser,
+-- its offset is a constant, its items are cells, and it ends within the table and within the
+-- largest image
 pub record MayBeTaken (lazy : Bool) (imports : ℕ) (tables : List DefinedTable) (s : ActiveElements) : Type 0 where
   pub lazy_tables : IsTrue lazy
   pub table : DefinedTable
@@ -85,7 +85,8 @@ pub record MayBeTaken (lazy : Bool) (imports : ℕ) (tables : List DefinedTable)
   pub within : place + length (image_cells s.items) ≤ table.minimum
   pub small : place + length (image_cells s.items) ≤ most_cells
 
--- the taken segments are the longest beginning of all whose segments may be taken; the others are kept
+-- the segments in images are the longest prefix of all segments in which each may be in an image;
+-- the others are kept
 pub record TakesPrefix (lazy : Bool) (imports : ℕ) (tables : List DefinedTable) (active taken kept : List ActiveElements) : Type 0 where
   pub parts : active ≡ taken ++ kept
   pub takes : All (MayBeTaken lazy imports tables) taken
@@ -96,12 +97,13 @@ abbrev pub end_on : ℕ → List ActiveElements → ℕ
 end_on table [] = 0
 end_on table (s ∷ ss) = if s.table == table then max (elements_end s) (end_on table ss) else end_on table ss
 
--- the length of an image: the whole of a table that is imaged from the start, or up to the greatest
--- end of the taken segments on it
+-- the length of an image: the complete table where it is imaged from the start, or else up to the
+-- greatest end of its segments in images
 abbrev pub image_length : Bool → List ActiveElements → ℕ → DefinedTable → ℕ
 image_length lazy taken table t = if is_imaged_from_start lazy t then t.minimum else end_on table taken
 
--- the image of a table: what the taken segments leave over the function of the initialiser, or over null
+-- the image of a table: what the segments in images leave over the function of the initialiser, or
+-- over null
 pub record IsTableImage (lazy : Bool) (taken : List ActiveElements) (table : ℕ) (t : DefinedTable) (image : List (Option ℕ)) : Type 0 where
   pub reach : length image ≡ image_length lazy taken table t
   pub cells : (place : ℕ) → place < length image

@@ -71,8 +71,8 @@ abbrev pub i31_of : List Value → Option Value
 i31_of (I32 n ∷ []) = Some (Ref (I31 (n % 2 ^ 31)))
 i31_of _ = None
 
--- a conversion of null is null, and one of what the opposite conversion made gives back what that
--- was made from
+-- a conversion of null is null, and a conversion of the opposite one's result gives the argument of
+-- that one
 abbrev pub to_extern : Term → Term
 to_extern Null = Null
 to_extern (AsAny term) = term
@@ -121,7 +121,8 @@ action globals fields op.AnyConvertExtern = converts to_any
 
 -- ---- expressions
 
--- the stack with the taken values replaced by the value that is made of them: none where fewer stand
+-- the stack with the popped values replaced by the value that is made of them: none where there are
+-- fewer
 abbrev pub acted : Action → List Value → Option (List Value)
 acted a stack = let rest = length stack - a.takes in
     if nat_le a.takes (length stack) then option_map (λ v. take rest stack ++ v ∷ []) (a.makes (drop rest stack)) else None
@@ -164,7 +165,7 @@ is_plain _ = false
 abbrev pub within_16 : List Value → Option (List Value)
 within_16 stack = if nat_le (length stack) 16 then Some stack else None
 
--- one of these operators, after which at most 16 values stand
+-- one of these operators, after which the stack has at most 16 values
 abbrev pub plain_step : Operator → List Value → Option (List Value)
 plain_step op stack = if is_plain op then option_and_then within_16 (acted (action [] (λ t. 0) op) stack) else None
 
@@ -185,7 +186,7 @@ abbrev pub number_or_zero : Option Value → ℕ
 number_or_zero None = 0
 number_or_zero (Some v) = number_of v
 
--- the place that an offset expression names, over the values of the globals
+-- the offset that an expression gives, over the values of the globals
 abbrev pub offset_over : List Value → (ℕ → ℕ) → Expression → ℕ
 offset_over globals fields e = number_or_zero (eval globals fields e)
 

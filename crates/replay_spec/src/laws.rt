@@ -45,7 +45,7 @@ pub fn typed_value_law()
 
 /// The globals of a module that keeps the listed rules have values of their classes, where the
 /// imported ones have; over these each initialiser, offset and item has a value of its class, so
-/// that nothing that it leaves is null or 0 for want of a value.
+/// nothing that it leaves is null or 0 because a value is missing.
 pub fn module_value_laws()
     ensures globals { (m : Module) (imported : List Value) → Keeps m → (let l = lists_of_module m in AreImported l imported
         → HaveClasses (all_globals l imported) l.global_types) }

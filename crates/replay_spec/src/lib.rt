@@ -2,8 +2,8 @@
 //! contracts of the planner.
 //!
 //! A phase has the pieces that segments write, in order. `content_of` is what they leave at a
-//! place, and `trap_of` is where they trap. The laws prove that planned images and segments leave
-//! the same, and trap at the same place.
+//! position, and `trap_of` is where they trap. The laws prove that planned images and segments
+//! leave the same contents, and trap at the same piece.
 //!
 //! ```
 //! // clauses of `worked_values`:

@@ -1,4 +1,4 @@
-//! The startup rule is what the plans of tables and memories raise it to.
+//! The startup rule gives what the plans of tables and memories raise startup to.
 
 ghost use Rattle.std.specs.Prelude.{◌≡◌};
 ghost use Rattle.rule_spec.specs.Lists.{Lists};

@@ -11,7 +11,7 @@ pub fn table_plan_law()
         → IsTablePlan lazy imports tables active plan → AgreesOnTables imports tables active plan }
 {}
 
-/// The taken segments are one prefix.
+/// The segments in table images are one prefix of all segments.
 pub fn taken_law()
     ensures { (lazy : Bool) (imports : ℕ) (tables : List DefinedTable) (active taken kept others rest : List ActiveElements)
         → TakesPrefix lazy imports tables active taken kept → TakesPrefix lazy imports tables active others rest → taken ≡ others }

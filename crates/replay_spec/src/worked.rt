@@ -40,7 +40,8 @@ pub fn worked_constants()
     ensures no_global { const_value (op.GlobalGet 0 ∷ []) ≡ None }
 {}
 
-/// Globals and references: a struct takes its fields, and conversions there and back leave what stood.
+/// Globals and references: a struct takes its fields, and conversions there and back give the
+/// original reference.
 pub fn worked_references()
     ensures global { eval (I32 5 ∷ []) (λ t. 0) (op.GlobalGet 0 ∷ op.I32Const (pos 2) ∷ op.I32Mul ∷ []) ≡ Some (I32 10) }
     ensures unknown_global { eval [] (λ t. 0) (op.GlobalGet 0 ∷ []) ≡ None }
@@ -73,11 +74,11 @@ pub fn worked_phases()
     // An offset of -1 is 4294967295, past the end: the last segment traps, though it is empty.
     ensures last_traps { trap_of (module_phase [] (λ t. 0) [] ends_at_minus_one) ≡ Some 1 }
     ensures kept_before_the_trap { content_of (module_phase [] (λ t. 0) [] ends_at_minus_one) 0 17 ≡ 9 }
-    // An empty segment may stand at the end, and not past it.
+    // An empty segment may be at the end, but not past it.
     ensures empty_traps { trap_of (module_phase [] (λ t. 0) [] empty_past_the_end) ≡ Some 1 }
 {}
 
-/// Ranges of three and one bytes stand end to end.
+/// Ranges of three and one bytes are contiguous.
 pub fn worked_ranges()
     ensures { ranges_from 0 (3 ∷ 1 ∷ []) ≡ (0, 3) ∷ (3, 4) ∷ [] }
 {}

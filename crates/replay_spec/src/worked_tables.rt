@@ -19,15 +19,16 @@ pub fn worked_element_phases()
     ensures planned_first { content_of (planned_elements_phase [] (λ t. 0) [] first_imaged) 0 1 ≡ Ref (Func 5) }
     ensures planned_last { content_of (planned_elements_phase [] (λ t. 0) [] first_imaged) 0 3 ≡ Ref Null }
     ensures planned_traps { trap_of (planned_elements_phase [] (λ t. 0) [] first_imaged) ≡ Some 2 }
-    // The value of a global stands in an imported table; what the segments do not reach stays.
+    // The value of a global is written to an imported table. Cells that no segment covers are
+    // unchanged.
     ensures global { content_of (elements_phase (Ref (Func 9) ∷ []) (λ t. 0) ((Ref Null ∷ Ref (Func 3) ∷ []) ∷ []) [] (from_a_global ∷ [])) 0 0 ≡ Ref (Func 9) }
     ensures imported { content_of (elements_phase (Ref (Func 9) ∷ []) (λ t. 0) ((Ref Null ∷ Ref (Func 3) ∷ []) ∷ []) [] (from_a_global ∷ [])) 0 1 ≡ Ref (Func 3) }
 {}
 
-/// Which segments are taken into the image of a table.
+/// Which segments are in the image of a table.
 pub fn worked_table_images()
     ensures functions_and_null { IsTablePlan true 0 (four_cells ∷ []) (three_cells ∷ []) (imaged (None ∷ Some 0 ∷ None ∷ Some 0 ∷ [])) }
-    // Nothing after a segment that is kept is taken.
+    // No segment after a kept segment is in an image.
     ensures prefix { TakesPrefix true 0 (four_cells ∷ []) (three_cells ∷ from_a_global ∷ three_cells ∷ []) (three_cells ∷ []) (from_a_global ∷ three_cells ∷ []) }
     // An offset is a constant of an integer class.
     ensures sum { constant_place (op.I32Const (pos 1) ∷ op.I32Const (pos 2) ∷ op.I32Add ∷ []) ≡ Some 3 }

@@ -25,7 +25,7 @@ abbrev pub TakesAndGivesNothing : Composite UnpackedIndex UnpackedIndex → Type
 TakesAndGivesNothing (Func type) = (type.params ≡ []) × (type.results ≡ [])
 TakesAndGivesNothing _ = ⊥
 
--- the kind of the type of a function, where both are there
+-- the kind of the type of a function, where both exist
 abbrev pub kind_of_function : Lists → ℕ → Option (Composite UnpackedIndex UnpackedIndex)
 kind_of_function l f = option_and_then (kind_at l) (slice_get l.functions f)
 

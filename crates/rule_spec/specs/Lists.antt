@@ -1,4 +1,4 @@
--- The lists of a module of which the rules speak (core specification, 2.5 and 3.1, contexts).
+-- The lists of a module that the rules refer to (core specification, 2.5 and 3.1, contexts).
 use Rattle.std.specs.Prelude.{ℕ, ◌+◌, List, [], ◌∷◌, ◌++◌, length, Option, slice_get}
 use Rattle.std.specs.List.{flat_map}
 use Rattle.wasm_spec.specs.declared.entities.MemoryType.{MemoryType}

@@ -20,7 +20,7 @@ pub record TypesAreNamed (l : Lists) : Type 0 where
 abbrev pub locals : Body → ℕ
 locals b = sum_by (λ (run : ℕ × ValType). run.0) b.locals
 
--- as many bodies as functions, as many data segments as stated, and locals of 32 bits (5.5, code
+-- as many bodies as functions, as many data segments as declared, and locals of 32 bits (5.5, code
 -- section and modules)
 pub record CountsAgree (l : Lists) : Type 0 where
   pub bodies : length l.functions ≡ l.imported_functions + length l.bodies
@@ -40,7 +40,7 @@ IsInitialised t = (t.type.element_type.nullable ≡ false) → IsSome t.init
 abbrev pub AreDistinct : List Export → Type 0
 AreDistinct es = AllPairs (λ (a b : Export). a.name ≢ b.name) es
 
--- exports name what there is, each by a name of its own (3.5, exports)
+-- exports name entries that exist, and no two have the same name (3.5, exports)
 pub record AreExported (l : Lists) : Type 0 where
   pub in_space : All (IsInSpace l) l.exports
   pub distinct : AreDistinct l.exports

@@ -1,4 +1,4 @@
--- What the type section keeps (core specification, 3.2).
+-- What the type section satisfies (core specification, 3.2).
 use Rattle.std.specs.Prelude.{ℕ, ◌<◌, All, IfSome, IsSomeAnd}
 use Rattle.wasm_spec.specs.declared.types.UnpackedIndex.{UnpackedIndex}
 use Rattle.wasm_spec.specs.declared.types.UnpackedIndex.TheVariants.{Module}

@@ -47,7 +47,7 @@ function_without_body = Types (alone nothing_to_nothing ∷ []) ∷ FunctionType
 abbrev pub maximum_below_minimum : Module
 maximum_below_minimum = Memories (record { memory64 = false; shared = false; initial = 2; maximum = Some 1; page_size_log2 = None } ∷ []) ∷ []
 
--- L5: a table of functions that are not null, and none to begin with
+-- L5: a table of functions that are not null, without an initialiser
 abbrev pub table_without_initialiser : Module
 table_without_initialiser = Tables (record { type = record { element_type = functions_only; table64 = false; initial = 1; maximum = None }; init = None } ∷ []) ∷ []
 
@@ -63,7 +63,7 @@ abbrev pub exported_twice : Module
 exported_twice = Memories (record { memory64 = false; shared = false; initial = 1; maximum = None; page_size_log2 = None } ∷ [])
     ∷ Exports (memory_as_a ∷ memory_as_a ∷ []) ∷ []
 
--- L8: function 0 is to start, and there is none
+-- L8: function 0 is the start function, and there is no function
 abbrev pub start_without_function : Module
 start_without_function = Start 0 ∷ []
 
@@ -92,7 +92,7 @@ three_types = lists_of_module (
     ∷ alone (array_of (Val (Ref (record { nullable = false; heap = Abstract heap.Any }))))
     ∷ alone (array_of (Val F32)) ∷ []) ∷ FunctionTypes (0 ∷ []) ∷ [])
 
--- global 0 is an i64, and global 1 may change
+-- global 0 is an i64, and global 1 is mutable
 abbrev pub two_globals : List GlobalType
 two_globals = record { content_type = values.I64; mutable = false } ∷ record { content_type = values.I64; mutable = true } ∷ []
 

@@ -51,7 +51,7 @@ memory_as_b = record { name = 0x62 ∷ []; kind = kind.Memory; index = 0 }
 abbrev pub exported_by_two_names : Module
 exported_by_two_names = Memories (one_page ∷ []) ∷ Exports (memory_as_a ∷ memory_as_b ∷ []) ∷ []
 
--- L8: function 0 is to start, which takes and gives nothing
+-- L8: function 0 is the start function, without parameters and results
 abbrev pub function_to_start : Module
 function_to_start = Types (alone nothing_to_nothing ∷ []) ∷ FunctionTypes (0 ∷ []) ∷ Start 0 ∷ []
 
@@ -74,13 +74,13 @@ reference_to_type = let first : HeapType = heaps.Concrete (named.Module 0) in
       init = op.RefNull first ∷ [];
     } ∷ []) ∷ []
 
--- ---- a whole module
+-- ---- a complete module
 
 -- a memory of one page and its data segments
 abbrev pub with_segments : List Segment → Module
 with_segments ss = Memories (one_page ∷ []) ∷ Segments ss ∷ []
 
--- the second segment covers a place of the first
+-- the second segment overlaps the first
 abbrev pub overlapping : Module
 overlapping = with_segments (segment_at (pos 16) (1 ∷ 2 ∷ 3 ∷ []) ∷ segment_at (pos 17) (9 ∷ []) ∷ [])
 

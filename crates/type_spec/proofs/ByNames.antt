@@ -13,7 +13,7 @@ use Rattle.type_spec.proofs.Equivalence.{type-groups}
 use Rattle.type_spec.proofs.Homes.{joined, size, home-within, home-type}
 
 module _ {R : Type 0} where
-  -- what a place is named by
+  -- what a position is named by
   abbrev pub name_by : (ℕ → NameKind) → (ℕ → R) → ℕ → Named R
   name_by kind number i = record { kind = kind i; index = number i }
 
@@ -67,7 +67,7 @@ zip-known-itself P same each (x ∷ xs) p = (each x (All-head P x xs p), zip-kno
 abbrev pub some_type : SubType ℕ ℕ
 some_type = record { is_final = true; supertype = None; composite = record { inner = Struct []; shared = false } }
 
--- the kind of the member at a place
+-- the kind of the member at a position
 abbrev pub member_kind : {H R : Type 0} → Group H R → ℕ → SubType H R → NameKind
 member_kind g p d = kind_of_type (get_or g p d).composite.inner
 

@@ -65,7 +65,7 @@ target-chained P Q R each (Inside p) (Earlier b) v d e = absurd d
 target-chained P Q R each (Earlier a) (Inside q) v d e = absurd d
 target-chained P Q R each (Earlier a) (Earlier b) (Inside r) d e = absurd e
 
--- an earlier type stands before the group
+-- an earlier type is before the group
 target-smaller : (P Q : ℕ → ℕ → Type 0) (g h r s : ℕ) → (r < g → P r s → Q r s) → (b c : Bool) → nat_le g r ≡ b
     → SameTarget P (target_by b (r - g) r) (target_by c (s - h) s) → SameTarget Q (target_by b (r - g) r) (target_by c (s - h) s)
 target-smaller P Q g h r s each true true is e = e
@@ -156,7 +156,7 @@ type-chained ms ns ls i j k x y =
     down-fuel d (suc i) ms ls i k (omega arith)
     (down-chained d ms ns ls i j k (down-fuel (suc i) d ms ns i j (omega arith) x) (down-fuel (suc j) d ns ls j k (omega arith) y))
 
--- a type's own place is as far as one has to go
+-- a type's own position is a sufficient depth
 pub type-deep : (d : ℕ) (ms ns : List (Group ℕ ℕ)) (i j : ℕ) → SameDown d ms ns i j → SameType ms ns i j
 type-deep d ms ns i j x = down-fuel d (suc i) ms ns i j (omega arith) x
 
@@ -165,12 +165,12 @@ type-deep d ms ns i j x = down-fuel d (suc i) ms ns i j (omega arith) x
 abbrev TypeSame : List (Group ℕ ℕ) → List (Group ℕ ℕ) → ℕ → ℕ → Type 0
 TypeSame ms ns r s = SameType ms ns r s
 
--- equal types stand in equal groups
+-- equal types are in equal groups
 pub type-groups : (ms ns : List (Group ℕ ℕ)) (i j : ℕ) → SameType ms ns i j → SameGroup (TypeSame ms ns) (home ms i) (home ns j)
 type-groups ms ns i j x =
     group-smaller (λ r s. SameDown i ms ns r s) (TypeSame ms ns) (home ms i) (home ns j) (λ r s before y. type-deep i ms ns r s y) x.1
 
--- types at one place of equal groups are equal
+-- types at one position of equal groups are equal
 pub groups-type : (ms ns : List (Group ℕ ℕ)) (i j : ℕ) → i - (home ms i).start ≡ j - (home ns j).start
     → SameGroup (TypeSame ms ns) (home ms i) (home ns j) → SameType ms ns i j
 groups-type ms ns i j at x = (
@@ -183,7 +183,7 @@ groups-type ms ns i j at x = (
 pub groups-long : (P : ℕ → ℕ → Type 0) (g h : Home) → SameGroup P g h → length g.members ≡ length h.members
 groups-long P g h x = sym (length-map g.members _) ∙ ap length x.frames ∙ length-map h.members _
 
--- types at equal places of the groups of equal types are equal
+-- types at equal positions of the groups of equal types are equal
 pub type-beside : (ms ns : List (Group ℕ ℕ)) (i j k l : ℕ) → SameType ms ns i j → home ms k ≡ home ms i → home ns l ≡ home ns j
     → k - (home ms k).start ≡ l - (home ns l).start → SameType ms ns k l
 type-beside ms ns i j k l x left right at =

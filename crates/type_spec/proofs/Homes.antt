@@ -1,4 +1,4 @@
--- Where the groups of a list stand in the joined list.
+-- Where the groups of a list are in the joined list.
 use Rattle.std.proofs.Common.{◌≡◌, ◌∙◌, ℕ, ◌+◌, ◌-◌, ◌<◌, ◌≤◌, List, [], ◌∷◌, ◌++◌, length, get_or, refl, sym, ap, arith, inl, inr, length-append}
 use Rattle.std.specs.List.{flat_map}
 use Rattle.std.proofs.lemmas.Bool.{cases_lt, lt-ltb, le-ltb}
@@ -16,7 +16,7 @@ size gs = length (joined gs)
 pub size-cons : (g : Group ℕ ℕ) (gs : List (Group ℕ ℕ)) → size (g ∷ gs) ≡ length g + size gs
 size-cons g gs = length-append g (joined gs)
 
--- the type at a place is a member of the group
+-- the type at a position is a member of the group
 pub record Holds (g : Home) (i : ℕ) : Type 0 where
   pub from : g.start ≤ i
   pub to : i < g.start + length g.members
@@ -28,7 +28,7 @@ module _ (start : ℕ) (g : Group ℕ ℕ) (gs : List (Group ℕ ℕ)) (i : ℕ)
   pub behind : start + length g ≤ i → home_from start (g ∷ gs) i ≡ home_from (start + length g) gs i
   behind le = rw (le-ltb i (start + length g) le) refl
 
--- ---- the group at a place has it, and lies within the list
+-- ---- the group at a position contains it, and is within the list
 
 pub record Within (g : Home) (start end i : ℕ) : Type 0 where
   pub low : start ≤ g.start

@@ -1,4 +1,4 @@
--- Numbers that are equal exactly at equal places of groups with equal canonical forms are equal
+-- Numbers that are equal exactly at equal positions of groups with equal canonical forms are equal
 -- exactly for equal types.
 use Rattle.std.proofs.Common.{◌≡◌, ◌↔◌, ℕ, zero, suc, ◌-◌, ◌<◌, List, arith}
 use Rattle.wasm_spec.specs.TypeData.{Group}
@@ -6,7 +6,7 @@ use Rattle.type_spec.specs.Equality.{home, canonical, SameDown, SameType}
 use Rattle.type_spec.proofs.Canonical.{canonical-below}
 use Rattle.type_spec.proofs.Equivalence.{home-start}
 
--- the place of a type in its group
+-- the position of a type in its group
 abbrev pub place : List (Group ℕ ℕ) → ℕ → ℕ
 place gs i = i - (home gs i).start
 

@@ -11,7 +11,7 @@ use Rattle.wasm_spec.specs.declared.types.AbstractHeapType.TheVariants as heap
 use Rattle.wasm_spec.specs.TypeData.{Heap, Concrete, Abstract, Reference, Value, I32, I64, F32, F64, V128, Ref, Storage, I8, I16, Val, Field, Function, Composite, Func, Array, Struct, Cont, Exn, Shared, SubType, Group}
 use Rattle.type_spec.specs.Same.{heap_byte, Gap, same_heap, same_reference, same_value, same_storage, same_field, same_function, same_composite, same_supertype, same_shared, same_sub_type, same_frame}
 
--- a test of two parts, which determine the whole
+-- a test of two parts, which together determine the value
 both-decide : {A B C : Type 0} (first : A → B) (second : A → C) (test : B → B → Bool) (test' : C → C → Bool)
     → ((x y : B) → Decides (test x y) (x ≡ y)) → ((x y : C) → Decides (test' x y) (x ≡ y))
     → ((a b : A) → first a ≡ first b → second a ≡ second b → a ≡ b) → (a b : A) → Decides (test (first a) (first b) && test' (second a) (second b)) (a ≡ b)

@@ -1,13 +1,13 @@
 -- Iso-recursive equality of types (core specification, 3.1, recursive types), over lists of groups
--- in which a reference is a place in the joined list.
+-- in which a reference is a position in the joined list.
 use Rattle.std.specs.Prelude.{◌≡◌, ℕ, zero, suc, ◌+◌, ◌-◌, Bool, true, false, nat_eq, nat_le, nat_lt, ◌&&◌, List, [], ◌∷◌, length, if◌then◌else◌}
 use Rattle.std.specs.Cmp.Lexicographic.{pointwise}
 use Rattle.wasm_spec.specs.TypeData.{Group, map_group, group_edges}
 use Rattle.type_data.specs.Shapes.{erased, AreAlike}
 use Rattle.type_spec.specs.Same.{same_frame}
 
--- a reference out of a group that starts at a place of the joined list: to a place of the group, or
--- to an earlier type
+-- a reference of a group that starts at a position of the joined list: to a position in the group,
+-- or to an earlier type
 pub data Target (X : Type 0) : Type 0 where
   Inside : (place : ℕ) → Target X
   Earlier : (what : X) → Target X
@@ -28,7 +28,7 @@ abbrev pub home_from : ℕ → List (Group ℕ ℕ) → ℕ → Home
 home_from start [] i = record { start = start; members = [] }
 home_from start (g ∷ gs) i = if nat_lt i (start + length g) then record { start = start; members = g } else home_from (start + length g) gs i
 
--- the group of the type at a place
+-- the group of the type at a position
 abbrev pub home : List (Group ℕ ℕ) → ℕ → Home
 home gs i = home_from 0 gs i
 
@@ -41,8 +41,8 @@ group_references g = group_edges (λ r. r) g.members
 
 -- ---- what equality is
 
--- two references are equal where both stay in their groups at equal places, or both leave them and
--- the types they name are equal
+-- two references are equal where both name equal positions of their own groups, or both name
+-- earlier types, which are equal
 abbrev pub SameTarget : {X Y : Type 0} → (X → Y → Type 0) → Target X → Target Y → Type 0
 SameTarget Same (Inside p) (Inside q) = p ≡ q
 SameTarget Same (Earlier a) (Earlier b) = Same a b
@@ -54,17 +54,19 @@ SameGroup Same g h =
     AreAlike (λ r s. SameTarget Same (target (λ i. i) g.start r) (target (λ i. i) h.start s))
     (group_frame g) (group_frame h) (group_references g) (group_references h)
 
--- types are equal where they stand at the same place of equal groups, down to a number of groups
+-- types are equal where they are at the same position of equal groups; references are followed
+-- through a given number of groups
 abbrev pub SameDown : ℕ → List (Group ℕ ℕ) → List (Group ℕ ℕ) → ℕ → ℕ → Type 0
 SameDown zero ms ns i j = ⊥
 SameDown (suc depth) ms ns i j =
     (i - (home ms i).start ≡ j - (home ns j).start) × SameGroup (λ r s. SameDown depth ms ns r s) (home ms i) (home ns j)
 
--- a reference out of a group names a smaller place, so no chain of them is longer than the place it begins at
+-- a reference out of a group names a lower position, so no chain of them is longer than the
+-- position where it begins
 abbrev pub SameType : List (Group ℕ ℕ) → List (Group ℕ ℕ) → ℕ → ℕ → Type 0
 SameType ms ns i j = SameDown (suc i) ms ns i j
 
--- ---- the test of it
+-- ---- the test of equality
 
 abbrev pub same_target : (ℕ → ℕ → Bool) → Target ℕ → Target ℕ → Bool
 same_target same (Inside p) (Inside q) = nat_eq p q
@@ -89,6 +91,7 @@ same_type ms ns i j = same_down (suc i) ms ns i j
 
 -- ---- canonical groups
 
--- a group in which each earlier type is given by a number, and each reference that stays by its place
+-- a group in which each earlier type is given by a number, and each reference within the group by
+-- its position
 abbrev pub canonical : (ℕ → ℕ) → Home → Group (Target ℕ) (Target ℕ)
 canonical number g = map_group (target number g.start) (target number g.start) g.members

@@ -139,7 +139,7 @@ kind_of_type (Struct fs) = StructName
 kind_of_type (Cont i) = ContName
 kind_of_type (Exn t) = ExnName
 
--- the kind of the type at a place of the joined list
+-- the kind of the type at a position of the joined list
 abbrev pub kind_at : List (Group ℕ ℕ) → ℕ → NameKind
 kind_at [] i = FuncName
 kind_at ([] ∷ gs) i = kind_at gs i
@@ -151,7 +151,7 @@ pub record Taken : Type 0 where
   pub built : Built
   pub declared : List ℕ
 
--- while groups are taken: what was built, and the interned index of the type at each place
+-- while groups are interned: what was built, and the interned index of the type at each position
 pub record Taking : Type 0 where
   pub built : Built
   pub number : ℕ → ℕ
@@ -160,7 +160,7 @@ abbrev pub none_taken : Taking
 none_taken = record { built = empty; number = λ i. 0 }
 
 module _ (all : List (Group ℕ ℕ)) where
-  -- the types of a group, and of each that is equal to it, get indices in a row
+  -- the types of a group, and of each that is equal to it, get consecutive indices
   abbrev pub numbered : (ℕ → ℕ) → Home → ℕ → ℕ → ℕ
   numbered number g first i = if equal_groups all g (home all i) then first + (i - (home all i).start) else number i
 

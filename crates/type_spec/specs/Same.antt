@@ -23,7 +23,7 @@ heap_byte heap.Exn = 0x69
 heap_byte heap.NoCont = 0x75
 heap_byte heap.Cont = 0x68
 
--- a reference that is left out
+-- a reference that is omitted
 abbrev pub Gap : Type 0
 Gap = Unit {0}
 

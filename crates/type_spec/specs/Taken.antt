@@ -1,4 +1,4 @@
--- When the groups that are taken of two lists are the same, and their interned lists.
+-- When two lists have the same interned groups, and when two interned lists are the same.
 use Rattle.std.specs.Prelude.{◌≡◌, ◌<◌, ℕ, ◌+◌, All, List, [], ◌∷◌, length}
 use Rattle.std.specs.List.{AllZip}
 use Rattle.wasm_spec.specs.TypeData.{Group, group_edges}
@@ -6,12 +6,13 @@ use Rattle.type_spec.specs.Equality.{SameGroup, SameType}
 use Rattle.type_spec.specs.TakenGroups.{taken_groups}
 use Rattle.type_spec.specs.Interned.{Built}
 
--- each reference names a type of its own group or of an earlier one, where the first group starts at a place
+-- each reference names a type of its own group or of an earlier one, where the first group starts
+-- at a position
 abbrev pub NameEarlier : ℕ → List (Group ℕ ℕ) → Type 0
 NameEarlier start [] = Unit {0}
 NameEarlier start (g ∷ gs) = All (λ r. r < start + length g) (group_edges (λ r. r) g) × NameEarlier (start + length g) gs
 
--- of two lists equally many groups are taken, and they are equal in turn
+-- of two lists equally many groups are interned, and they are equal in turn
 abbrev pub TakeEqual : List (Group ℕ ℕ) → List (Group ℕ ℕ) → Type 0
 TakeEqual ms ns = AllZip (SameGroup (λ i j. SameType ms ns i j)) (taken_groups ms) (taken_groups ns)
 

@@ -1,11 +1,12 @@
--- Which groups of a list the interned list takes: each where it, or one that is equal to it, first occurs.
+-- Which groups of a list are in the interned list: each where it, or one that is equal to it, first
+-- occurs.
 use Rattle.std.specs.Prelude.{ℕ, Bool, List, length, map}
 use Rattle.std.specs.List.{flat_map, range_with_len}
 use Rattle.entity_map.specs.Firsts.{firsts_by}
 use Rattle.wasm_spec.specs.TypeData.{Group}
 use Rattle.type_spec.specs.Equality.{Home, home, same_type}
 
--- the places of a list's types
+-- the positions of a list's types
 abbrev pub places : List (Group ℕ ℕ) → List ℕ
 places gs = range_with_len 0 (length (flat_map (λ g. g) gs))
 

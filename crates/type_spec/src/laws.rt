@@ -17,8 +17,8 @@ pub fn decided_law()
     ensures { (ms ns : List (Group ℕ ℕ)) (i j : ℕ) → (same_type ms ns i j ≡ true) ↔ SameType ms ns i j }
 {}
 
-/// Equality of types is an equivalence, within a list and across lists, and no depth tells more
-/// types equal than that of the first place.
+/// Equality of types is an equivalence, within a list and across lists. No depth makes more types
+/// equal than the depth that the first type's position gives.
 pub fn equivalence_law()
     ensures itself { (ms : List (Group ℕ ℕ)) (i : ℕ) → SameType ms ms i i }
     ensures turned { (ms ns : List (Group ℕ ℕ)) (i j : ℕ) → SameType ms ns i j → SameType ns ms j i }

@@ -36,8 +36,8 @@ pub fn worked_hollow()
     ensures declared { (taken hollow).declared ≡ 0 ∷ 1 ∷ [] }
 {}
 
-/// Lists that take equal groups in turn have one interned list, wherever the groups start; in
-/// another order they have another.
+/// Lists whose groups are interned equal in turn have one interned list, wherever the groups start.
+/// In another order they have another.
 pub fn worked_taken()
     ensures repeated { taken_groups repeated
         ≡ record { start = 0; members = function true [] ∷ [] } ∷ record { start = 2; members = function false [] ∷ [] } ∷ [] }
@@ -51,7 +51,7 @@ pub fn worked_taken()
         ∷ plain (Func (record { params = []; results = [] })) ∷ [] }
 {}
 
-/// A function that takes a reference has a trampoline of its own, in a group of its own.
+/// A function with a reference as parameter has a separate trampoline, in a separate group.
 pub fn worked_trampoline()
     ensures types { (interned itself [] false).types
         ≡ plain (Func (record { params = not_null (Concrete (record { kind = FuncName; index = 0 })) ∷ []; results = [] }))
@@ -60,13 +60,14 @@ pub fn worked_trampoline()
     ensures trampolines { (interned itself [] false).trampolines ≡ Some 1 ∷ Some 1 ∷ [] }
 {}
 
-/// A declared type that equals an appended trampoline is another type, which is called by that trampoline.
+/// A declared type that equals an appended trampoline is a separate type, whose trampoline is that
+/// one.
 pub fn worked_as_called()
     ensures declared { (taken as_called).declared ≡ 0 ∷ 2 ∷ [] }
     ensures trampolines { (interned as_called [] false).trampolines ≡ Some 1 ∷ Some 1 ∷ Some 1 ∷ [] }
 {}
 
-/// An exception type comes once for a function type and has its parameters, and the startup type comes last.
+/// A function type has one exception type, which has its parameters. The startup type is last.
 pub fn worked_exceptions()
     ensures types { (interned itself (0 ∷ 0 ∷ []) true).types ≡ (taken itself).built.types
         ++ plain (Exn (record { function = 0; fields = record { element = Val (not_null (Concrete (record { kind = FuncName; index = 0 }))); mutable = false } ∷ [] }))

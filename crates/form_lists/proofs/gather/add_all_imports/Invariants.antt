@@ -6,7 +6,7 @@ use Rattle.form_lists.specs.Gathered.{AddsImports}
 use Rattle.form_lists.specs.declared.lists.Spaces.{Spaces}
 use Rattle.form_lists.proofs.gather.add_all_imports.Given as goal
 
--- once the imports that are left are added, all are
+-- once the remaining imports are added, all are added
 abbrev pub invariant-loop-import : goal.invariant-loop-import
 invariant-loop-import l = (later : Spaces) → AddsImports l.spaces later (entries_left import_of imports_of_section l.import-iterator)
     → AddsImports l.initial.spaces later (imports (source_module l.source))

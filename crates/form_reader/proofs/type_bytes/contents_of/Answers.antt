@@ -3,7 +3,7 @@ use Rattle.std.proofs.lemmas.Bool.{ne_eqb}
 use Rattle.form_reader.specs.TypeBytes.{section_bytes_at, contents_of}
 use Rattle.form_reader.proofs.type_bytes.contents_of.Goals as goal
 
--- a section of another id is passed over
+-- a section of another id is skipped
 passed : (id n : ℕ) (bytes : List ℕ) (s : ℕ × List ℕ × List ℕ) → section_bytes_at bytes ≡ Some s → s.0 ≢ id
     → contents_of id (suc n) bytes ≡ contents_of id n s.2
 unfolding contents_of

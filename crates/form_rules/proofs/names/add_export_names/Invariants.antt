@@ -8,7 +8,7 @@ use Rattle.form_lists.specs.Sections.{entries_left}
 use Rattle.form_rules.specs.Names.{exported_names}
 use Rattle.form_rules.proofs.names.add_export_names.Given as goal
 
--- the names that are left are still to be taken
+-- the remaining names are still to be added
 abbrev pub invariant-loop-export : goal.invariant-loop-export
 invariant-loop-export l = fold sip.write l.digest (exported_names (entries_left export_of exports_of_section l.export-iterator))
     ≡ fold sip.write l.initial.digest (exported_names (flat_map exports_of_section (source_module l.source)))

@@ -6,7 +6,7 @@ use Rattle.rule_spec.specs.Rules.{Satisfies}
 use Rattle.form_lists.specs.Views.{lists_of}
 use Rattle.form_rules.proofs.rules.keeps.Goals as goal
 
--- an answer on the rule of an arm is one on the rule that was asked
+-- a result for the rule of a match arm is one for the rule that was checked
 asked : {E : Type 0} (l : Lists) {rule arm : Rule} (result : Result Bool E) → rule ≡ arm
     → IfOk result (λ (kept : Bool). IsTrue kept ↔ Satisfies arm l) → IfOk result (λ (kept : Bool). IsTrue kept ↔ Satisfies rule l)
 asked l result is = subst (λ r. IfOk result (λ (kept : Bool). IsTrue kept ↔ Satisfies r l)) (sym is)

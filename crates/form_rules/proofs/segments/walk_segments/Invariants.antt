@@ -9,7 +9,7 @@ use Rattle.form_lists.specs.Walk.{walk_left}
 use Rattle.form_lists.specs.Views.{lists_of}
 use Rattle.form_rules.proofs.segments.walk_segments.Given as goal
 
--- all hold exactly where those do that were asked and those that are left
+-- all hold exactly where those checked so far and the remaining ones do
 abbrev pub invariant-loop-segments : goal.invariant-loop-segments
 invariant-loop-segments l =
     let ls = lists_of l.lists in

@@ -6,7 +6,7 @@ use Rattle.form_lists.specs.Source.{source_module, sections_left}
 use Rattle.form_lists.specs.Views.{lists_of}
 use Rattle.form_rules.proofs.start.starts_hold.Given as goal
 
--- all hold exactly where those do that are left
+-- all hold exactly where the remaining ones do
 abbrev pub invariant-loop-section : goal.invariant-loop-section
 invariant-loop-section l = All (CanStart (lists_of l.lists)) (flat_map starts_of_section (sections_left l.section-iterator))
     ↔ All (CanStart (lists_of l.lists)) (flat_map starts_of_section (source_module l.lists.source))

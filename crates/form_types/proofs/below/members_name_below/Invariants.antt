@@ -4,7 +4,7 @@ use Rattle.rule_spec.specs.Lists.{declared_from}
 use Rattle.form_types.specs.Below.{NamesBelow}
 use Rattle.form_types.proofs.below.members_name_below.Given as goal
 
--- all hold exactly where those do that are left
+-- all hold exactly where the remaining ones do
 abbrev pub invariant-loop-first : goal.invariant-loop-first
 invariant-loop-first l = record {
   long : l.index + length l.left ≡ l.end;

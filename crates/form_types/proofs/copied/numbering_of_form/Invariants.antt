@@ -4,6 +4,6 @@ use Rattle.form_data.specs.Views.{payload_of}
 use Rattle.form_types.specs.Taken.{Took}
 use Rattle.form_types.proofs.copied.numbering_of_form.Given as goal
 
--- the groups of the sections so far are taken
+-- the numbering has taken the groups of the sections so far
 abbrev pub invariant-loop-payload : goal.invariant-loop-payload
 invariant-loop-payload l = Took l.numbering (groups (map payload_of (take l.payload-index l.payload-items)))

@@ -4,6 +4,6 @@ use Rattle.form_reader.specs.Input.{TakesGroups}
 use Rattle.form_types.specs.Taken.{Took}
 use Rattle.form_types.proofs.copied.take_copies.Given as goal
 
--- copies of the groups so far are taken
+-- the numbering has taken copies of the groups so far
 abbrev pub invariant-loop-group : goal.invariant-loop-group
 invariant-loop-group l = TakesGroups Took l.initial.numbering l.numbering (map group_of (take l.group-index l.groups))

@@ -3,7 +3,7 @@ use Rattle.wasm_spec.specs.TypeData.{field_of}
 use Rattle.rule_spec.specs.Typing.{field_class}
 use Rattle.form_typing.proofs.stack.pop_fields.Given as goal
 
--- the values of the later fields are taken
+-- the values of the later fields are popped
 abbrev pub invariant-loop-left : goal.invariant-loop-left
 invariant-loop-left l = record {
   within : l.left ≤ length l.fields;

@@ -1,7 +1,7 @@
 use Rattle.std.proofs.Common.{◌≡◌, ◌≤◌, ◌++◌, replicate, drop}
 use Rattle.form_typing.proofs.stack.pop_many.Given as goal
 
--- the later values are taken
+-- the later values are popped
 abbrev pub invariant-loop-left : goal.invariant-loop-left
 invariant-loop-left l = record {
   within : l.left ≤ l.fn.count;

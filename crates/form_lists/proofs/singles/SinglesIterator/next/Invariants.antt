@@ -6,6 +6,6 @@ use Rattle.form_lists.proofs.singles.SinglesIterator.next.Given as goal
 abbrev pub invariant-loop-custom : goal.invariant-loop-custom
 invariant-loop-custom l = singles_left l.self ≡ singles_left l.fn.self
 
--- the steps that are left
+-- the remaining steps
 abbrev pub decreases-loop-custom : goal.decreases-loop-custom
 decreases-loop-custom l = steps_left l.self.sections

@@ -7,6 +7,6 @@ abbrev pub invariant-loop-self : goal.invariant-loop-self
 invariant-loop-self g l = walk_left g.E.InputEntry.form g.E.InputEntry.view g.E.InputEntry.of_section l.self
     ≡ walk_left g.E.InputEntry.form g.E.InputEntry.view g.E.InputEntry.of_section l.initial.self
 
--- the steps that are left
+-- the remaining steps
 abbrev pub decreases-loop-self : goal.decreases-loop-self
 decreases-loop-self g l = steps_left l.self.sections

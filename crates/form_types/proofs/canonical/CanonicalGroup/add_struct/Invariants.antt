@@ -6,7 +6,7 @@ use Rattle.form_types.specs.Codes.{field_codes}
 use Rattle.form_types.specs.Keys.{Adds}
 use Rattle.form_types.proofs.canonical.CanonicalGroup.add_struct.Given as goal
 
--- the fields so far are added, and there is room for the others and the end mark
+-- the fields so far are added, and there is capacity for the others and the end mark
 abbrev pub invariant-loop-field : goal.invariant-loop-field
 invariant-loop-field l = record {
   room : vec_len l.self.frame + 2 * (length l.fields - l.field-index) < vec_capacity l.self.frame;

@@ -6,7 +6,7 @@ use Rattle.form_types.specs.Codes.{value_code}
 use Rattle.form_types.specs.Keys.{Adds}
 use Rattle.form_types.proofs.canonical.CanonicalGroup.add_values.Given as goal
 
--- the values so far are added, and there is room for the others and the end mark
+-- the values so far are added, and there is capacity for the others and the end mark
 abbrev pub invariant-loop-value : goal.invariant-loop-value
 invariant-loop-value l = record {
   room : vec_len l.self.frame + (length l.values - l.value-index) < vec_capacity l.self.frame;
