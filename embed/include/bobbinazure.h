@@ -9,7 +9,7 @@
  *     }
  *     bobbinazure_plan_free(&plan);
  *
- * Link libbobbinazure.a. embed/README.md has a whole example and a table of the fields.
+ * Link libbobbinazure.a. embed/README.md has a complete example and a table of the fields.
  *
  * The library keeps no state between calls. Several threads may call it at once: a call reads its own
  * arguments and writes its own results. Memory comes from malloc. The caller owns what a call returns,
@@ -41,7 +41,7 @@ enum {
 /* Why a module is refused: the field `refusal`. */
 enum {
     BOBBINAZURE_MALFORMED = 1,      /* the bytes are no module by the grammar of the format */
-    BOBBINAZURE_INVALID = 2,        /* refusal_detail: the first of the ten listed rules that is broken, from 1 */
+    BOBBINAZURE_INVALID = 2,        /* refusal_detail: the first of the ten rules that is broken, from 1 */
     BOBBINAZURE_UNSUPPORTED = 3,    /* refusal_detail: a number of the next enum */
     BOBBINAZURE_TOO_LARGE = 4,      /* the module, or the data of its plan */
     BOBBINAZURE_OFFSET_OVERFLOW = 5 /* an object or the context has more than 4,294,967,295 bytes */
@@ -62,7 +62,7 @@ enum {
     BOBBINAZURE_AT_BYTE = 0,        /* offset: the offset itself, which the planner computed */
     BOBBINAZURE_AT_CONSTANT = 1,    /* offset: the bits of the constant, of 32 or 64 bits */
     BOBBINAZURE_AT_GLOBAL = 2,      /* offset: the index of the global that holds it */
-    BOBBINAZURE_AT_EXPRESSION = 3   /* another expression: its operators are in segment_places or element_places */
+    BOBBINAZURE_AT_EXPRESSION = 3   /* another one: its operators are in segment_places or element_places */
 };
 
 /* When the startup function must run. */
@@ -87,7 +87,7 @@ enum {
     BOBBINAZURE_OF_ENGINE = 1,
     BOBBINAZURE_OF_MODULE = 2,
     BOBBINAZURE_OF_GROUP = 3,
-    BOBBINAZURE_OF_SECTION = 4,     /* the type section, whose types `declared` interns: of the locals of bodies alone, as the next */
+    BOBBINAZURE_OF_SECTION = 4,     /* the type section, `declared`: only in locals of bodies, as the next */
     BOBBINAZURE_OF_IDS = 5          /* types by ids, which no plan has */
 };
 
@@ -169,8 +169,8 @@ enum {
     BOBBINAZURE_EXN_OBJECT = 2
 };
 
-/* The objects of a collected heap, in bytes: the header, and where the length of an array and the tag of an exception begin. The two
- * collectors are those of the option `collector`. */
+/* The objects of a collected heap, in bytes: the size of the header, and where the length of an array and
+ * the tag of an exception begin. The two collectors are those of the option `collector`. */
 enum {
     BOBBINAZURE_DRC_HEADER_SIZE = 24,
     BOBBINAZURE_DRC_ARRAY_LENGTH = 24,
@@ -184,11 +184,11 @@ enum {
     BOBBINAZURE_HEADER_TYPE_INDEX = 4   /* in the header: its type, by the index of the engine */
 };
 
-/* What an import is answered. */
+/* The answer to an import: the field `answer`. */
 enum {
     BOBBINAZURE_GIVEN = 0,          /* detail: the number of the export, from 0 */
     BOBBINAZURE_MISSING = 1,        /* no export has its names */
-    BOBBINAZURE_MISMATCH = 2        /* detail: the first rule that the export breaks, of the next enum; line: its text */
+    BOBBINAZURE_MISMATCH = 2        /* detail: the first broken rule, of the next enum; line: its text */
 };
 
 /* The rules by which an export matches an import, in the order in which they are checked. */
@@ -214,7 +214,8 @@ enum {
 /* No greatest size. */
 #define BOBBINAZURE_UNBOUNDED UINT64_MAX
 
-/* Bytes that are not freed by themselves: of the module, of the library, or of a row that says whether the plan made them. */
+/* Bytes that are not freed by themselves. They are of the module, of the library, or of a row that says
+ * whether the plan made them. */
 typedef struct { const uint8_t *at; size_t len; } bobbinazure_bytes;
 
 /* A list, and how many items it has. */
@@ -737,10 +738,16 @@ typedef struct {
 
 /* Here ends what embed/generate makes. */
 
-/* Plans the module that the bytes spell. Takes the bytes and the options, which it reads while it runs; the plan refers to the bytes where a
- * segment or a name stands there, so they must outlive it. At PLANNED the plan is whole, and bobbinazure_plan_free frees it; at REFUSED its
- * three first fields say why; at NO_MEMORY it has the lists that were made, which bobbinazure_plan_free frees; at WRONG_OPTIONS it is unchanged.
- * The plan that is passed in comes from bobbinazure_plan_init: what it held is not freed. */
+/* Plans the module that the bytes spell.
+ *
+ * The call reads the bytes and the options. The plan points into the bytes, where a segment or a name is,
+ * so the bytes must outlive the plan. `plan` must come from bobbinazure_plan_init: what it held is not
+ * freed.
+ *
+ *   PLANNED        the plan is complete; bobbinazure_plan_free frees it
+ *   REFUSED        its first three fields say why
+ *   NO_MEMORY      it has the lists that were made; bobbinazure_plan_free frees them
+ *   WRONG_OPTIONS  it is unchanged */
 uint32_t bobbinazure_make_plan(const uint8_t *bytes, size_t len, const bobbinazure_options *options, bobbinazure_plan *plan);
 
 /* The same plan as text, or the line of the refusal: UTF-8 without a zero at the end.
@@ -765,12 +772,13 @@ uint32_t bobbinazure_make_plan_and_text(const uint8_t *bytes, size_t len, const 
 uint32_t bobbinazure_link(const uint8_t *exporter, size_t exporter_len, const uint8_t *importer, size_t importer_len,
                           const uint8_t *as_module, size_t as_module_len, const bobbinazure_options *options, bobbinazure_link_record *links);
 
-/* Where bytes that a plan has from the module begin in the module: the code of a body, a segment, a name. */
+/* The offset in the module of bytes that a plan has from it: the code of a body, a segment, a name. */
 static inline size_t bobbinazure_offset(const uint8_t *module, bobbinazure_bytes part) {
     return (size_t)(part.at - module);
 }
 
-/* The layout of the objects of an interned type, as of the exceptions of a tag; none where it has no objects. */
+/* The layout of the objects of an interned type, such as the exceptions of a tag; null where it has no
+ * objects. */
 static inline const bobbinazure_layout *bobbinazure_layout_of(const bobbinazure_plan *plan, uint32_t type) {
     size_t low = 0, high = plan->layouts.len;
     while (low < high) {
@@ -781,7 +789,7 @@ static inline const bobbinazure_layout *bobbinazure_layout_of(const bobbinazure_
     return low < plan->layouts.len && plan->layouts.at[low].type == type ? &plan->layouts.at[low] : 0;
 }
 
-/* Those of the program without a word. */
+/* The options of the program without a word of the command line. */
 static inline bobbinazure_options bobbinazure_options_init(void) {
     bobbinazure_options options = {0, 0, 0, 0, 0, 8, 0, 4096, 1048576};
     return options;

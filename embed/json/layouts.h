@@ -65,7 +65,7 @@ static void put_structs(const bobbinazure_structs *structs) {
     close_object();
 }
 
-/* Items of one size that stand end to end in the context. */
+/* Items of one size that are end to end in the context. */
 static void put_slots(const char *name, uint32_t offset, uint64_t count, uint64_t item_size) {
     open_object(0);
     word("name", name);

@@ -13,7 +13,8 @@
 
 static int is_first = 1, depth = 0;
 
-/* Begins a member of that name; without a name an item of a list. What is of the two outer levels has a line each. */
+/* Begins a member of that name; without a name an item of a list. Each item of the two outer levels has
+ * its own line. */
 static void item(const char *name) {
     if (!is_first) fputs(depth <= 2 ? "," : ", ", stdout);
     if (depth && depth <= 2) printf("\n%*s", depth, "");

@@ -137,7 +137,7 @@ reads-none seen plain =
 same-setting : (s t : Setting) → Some s ≡ Some t → s ≡ t
 same-setting s t e = cc
 
--- the words that are left begin with the next one
+-- the words that remain begin with the next one
 pub next-word : {X : Type 0} (f : X → List ℕ) (xs : List X) (i : ℕ) (x : X) → i < length xs → x ≡ get_or xs i x
     → map f (drop i xs) ≡ f x ∷ map f (drop (i + 1) xs)
 next-word f xs i x within is = ap (map f) (drop_more xs i x within) ∙ ap (λ y. f y ∷ map f (drop (i + 1) xs)) (sym is)

@@ -1,4 +1,4 @@
-//! What the words of a command ask for.
+//! What the words of a command request.
 
 use wasm_types::Tunables;
 
@@ -9,7 +9,7 @@ pub enum Collector {
     Null,
 }
 
-/// What the words ask for.
+/// What the words request.
 #[derive(Clone, Copy, Debug, PartialEq, Eq)]
 pub struct Command {
     /// The number of a module to be made in place of reading one.

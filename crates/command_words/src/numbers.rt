@@ -3,7 +3,7 @@
 ghost use Rattle.std.specs.Prelude.{◌≡◌, ◌<◌, ◌^◌, ℕ, decimal, IfSome, Some};
 ghost use Rattle.std.specs.Int.{IsPowerOfTwo};
 
-/// The number that the whole text spells in decimal, without a sign and without needless zeros.
+/// The number that the complete text spells in decimal, without a sign and without needless zeros.
 pub(crate) fn read_number(text: &str) -> Option<u64>
     ensures spelled { IfSome result (λ n. text.now ≡ decimal n) }
     ensures complete { (n : ℕ) → n < 2 ^ 64 → text.now ≡ decimal n → result ≡ Some n }
@@ -20,7 +20,7 @@ pub(crate) fn read_number(text: &str) -> Option<u64>
     text.parse::<u64>().ok()
 }
 
-/// The power of two that the whole text spells.
+/// The power of two that the complete text spells.
 pub(crate) fn read_power(text: &str) -> Option<u64>
     ensures spelled { IfSome result (λ n. text.now ≡ decimal n) }
     ensures power { IfSome result IsPowerOfTwo }

@@ -8,7 +8,8 @@ use crate::numbers::read_number;
 use crate::settings::{KINDS, kind_of, read_setting, with_setting};
 use wasm_types::Tunables;
 
-/// The command that the words name, which are those after the program's name; `None` where they name none.
+/// The command that the words name; `None` where they name none. The words are those after the
+/// program's name.
 pub fn read_words(words: &[String]) -> Option<Command>
     ensures named { IfSome result (Names (map string_bytes words.now)) }
     // So there is none exactly where no command is named.

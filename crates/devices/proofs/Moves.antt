@@ -8,13 +8,13 @@ take-front n left rest within =
     let n_in_front : n ≤ length (take n left) = omega (arith, length-take-le n left within) in
     take-append-le n (take n left) rest n_in_front ∙ take-take n n left (omega arith)
 
--- what a buffer begins with and what is left are what was left
+-- the front of a buffer and the bytes that remain are the bytes that remained before
 pub front-and-rest : (n : ℕ) (left rest buffer new : List ℕ) → n ≤ length left → buffer ≡ take n left ++ rest → new ≡ drop n left
     → left ≡ take n buffer ++ new
 front-and-rest n left rest buffer new within moved kept =
     rw (moved, kept, take-front n left rest within) (sym (take-append-drop n left))
 
--- the same of a read that returns how many bytes it moved
+-- the same for a read that returns how many bytes it moved
 pub front-and-rest-on-ok : {E : Type 0} (r : Result ℕ E) (count : ℕ) (left buffer filled new : List ℕ) → count ≤ length left
     → IfOk r (λ n. n ≡ count) → IfOk r (λ n. filled ≡ take n left ++ drop n buffer) → IfOk r (λ n. new ≡ drop n left)
     → IfOk r (λ n. left ≡ take n filled ++ new)

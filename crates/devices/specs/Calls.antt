@@ -1,4 +1,4 @@
--- The calls of a device that fails where it was told to.
+-- The calls of a device that fails at listed calls.
 use Rattle.std.specs.Prelude.{◌+◌, ℕ, List, Contains}
 use Rattle.devices.specs.Counter.{raised_by}
 
@@ -16,7 +16,7 @@ no_calls failing = record { failing = failing; made = 0; faults = 0 }
 abbrev pub FailsNext : Calls → Type 0
 FailsNext calls = Contains calls.failing (calls.made + 1)
 
--- one more call was made, and went well
+-- one more call was made, and succeeded
 abbrev pub after_success : Calls → Calls
 after_success calls = record calls { made = raised_by 1 calls.made }
 

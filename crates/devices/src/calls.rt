@@ -1,4 +1,4 @@
-//! The calls of a device that fails where it was told to.
+//! The calls of a device that fails at listed calls.
 
 ghost use Rattle.std.specs.Prelude.{◌≡◌, ◌≤◌, ◌↔◌, IsErr, OnOk, OnErr};
 ghost use Rattle.devices.specs.Calls.{no_calls, FailsNext, after_success, after_fault};

@@ -6,8 +6,8 @@ ghost use Rattle.devices.specs.Counter.{raised_by};
 use crate::device::{Failed, Sink};
 use std::marker::Model;
 
-/// Takes every byte, never fails, and keeps only how many it took. A contract sees that number,
-/// which stays at `u64::MAX` once it is there.
+/// Accepts every byte, never fails, and keeps only how many it accepted. A contract sees that
+/// number, which stays at `u64::MAX` once it is reached.
 #[derive(Default, Drop)]
 pub struct CountSink {
     total: u64,
@@ -22,14 +22,14 @@ impl Model for CountSink {
 }
 
 impl CountSink {
-    /// A sink that took nothing yet.
+    /// A sink that accepted nothing yet.
     pub fn new() -> Self
         ensures { result ≡ 0 }
     {
         CountSink { total: 0 }
     }
 
-    /// How many bytes it took, or `u64::MAX` where these were more.
+    /// How many bytes it accepted, or `u64::MAX` where these were more.
     pub fn total(&self) -> u64
         ensures { result ≡ self.now }
     {

@@ -11,7 +11,7 @@ use std::alloc::AllocError;
 pub struct Failed;
 
 /// Out of memory.
-// This crate stands on no other, so its callers turn this into their own.
+// This crate depends on no other, so its callers convert this error into their own.
 #[derive(Clone, Copy, Debug, PartialEq, Eq)]
 pub struct OutOfMemory;
 
@@ -23,18 +23,19 @@ impl From<AllocError> for OutOfMemory {
 
 /// Where bytes come from.
 pub trait Source {
-    /// The bytes left, where it tells them.
+    /// The bytes that remain, where the source reports them.
     ghost left: { Self → Option (List ℕ) };
 
     /// How many reads failed, on a counter of 64 bits that stays at its last value.
     ghost faults: { Self → ℕ };
 
-    /// How many reads were made since the first that moved no byte, if one did. A source that tells
-    /// its bytes need not count.
+    /// How many reads were made since the first that moved no byte, if one did. A source that
+    /// reports its bytes need not count.
     ghost since_end: { Self → Option ℕ };
 
-    /// Moves the first bytes left into the front of `buf`, and returns how many: 0 only at the end.
-    /// `Failed` leaves the bytes left as they were.
+    /// Moves the first remaining bytes into the front of `buf`, and returns how many: 0 only at the
+    /// end.
+    /// `Failed` leaves the remaining bytes as they were.
     fn read(&mut self, buf: &mut [u8]) -> Result<usize, Failed>
         requires { 0 < length buf.old }
         ensures within { IfOk result (λ n. n ≤ length buf.old) }
@@ -52,7 +53,7 @@ pub trait Source {
 
 /// Where bytes go.
 pub trait Sink {
-    /// The bytes held, where it tells them.
+    /// The bytes held, where the sink reports them.
     ghost held: { Self → Option (List ℕ) };
 
     /// How many writes failed, on a counter of 64 bits that stays at its last value.

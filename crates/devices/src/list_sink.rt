@@ -1,4 +1,4 @@
-//! A sink that holds bytes up to its room, and fails where it was told to.
+//! A sink that holds bytes up to its capacity, and fails at listed writes.
 
 ghost use Rattle.std.specs.Prelude.{◌≡◌, ◌<◌, ◌≤◌, ◌-◌, ◌↔◌, ◌⊎◌, ◌++◌, [], Some, IsErr, IfOk, OnErr, length, take, min};
 ghost use Rattle.devices.specs.Calls.{no_calls, FailsNext, after_success, after_fault};
@@ -9,8 +9,8 @@ use crate::device::{Failed, OutOfMemory, Sink};
 use std::alloc::Global;
 use std::marker::Model;
 
-/// Holds the bytes that were written, up to its room; takes at most `most` of them a write, and fails at the
-/// listed writes and where it is full.
+/// Holds the bytes that were written, up to its capacity. It takes at most `most` of them a write,
+/// and fails at the listed writes and where it is full.
 #[derive(Drop)]
 pub struct ListSink<'a> {
     bytes: Vec<u8>,
@@ -28,13 +28,13 @@ impl<'a> Model for ListSink<'a> {
 
     ghost view = { λ s. record { held = s.bytes.items; room = s.room; most = s.most; calls = s.calls } };
 
-    // The room was taken at making, so a write needs no memory.
+    // The capacity was allocated at creation, so a write needs no memory.
     ghost invariant = { λ s. (0 < s.most) × (vec_len s.bytes ≤ s.room) × (s.room ≤ vec_capacity s.bytes) };
 }
 
 impl<'a> ListSink<'a> {
-    /// A sink that holds nothing, with its room taken at once; `most` is not 0. Write number `k`,
-    /// from 1, fails where `k` is in `failing`.
+    /// A sink that holds nothing, with its capacity allocated at once; `most` is not 0. Write
+    /// number `k`, from 1, fails where `k` is in `failing`.
     pub fn new(
         alloc: Global,
         room: usize,
@@ -78,7 +78,7 @@ impl<'a> Sink for ListSink<'a> {
         ensures err { OnErr result (self.new ≡ record self.old { calls = after_fault self.old.calls }) }
         ensures counted { self.old.calls.faults ≤ self.new.calls.faults }
 
-        // Any other appends what there is room for, up to the most that one write takes.
+        // Any other write appends what fits, up to the most that one write takes.
         ensures takes { IfOk result (λ n. (0 < n) × (n ≤ length piece.now)) }
         ensures count { IfOk result (λ n. n
             ≡ min (min (length piece.now) self.old.most) (self.old.room - length self.old.held)) }

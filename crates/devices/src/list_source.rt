@@ -1,4 +1,4 @@
-//! A source that gives a list of bytes piece by piece, and fails where it was told to.
+//! A source that gives a list of bytes piece by piece, and fails at listed reads.
 
 ghost use Rattle.std.specs.Prelude.{None, ◌≡◌, ◌<◌, ◌≤◌, ◌↔◌, ◌++◌, [], Some, IsErr, IfOk, OnErr, length, take, drop, min};
 ghost use Rattle.devices.specs.Calls.{no_calls, FailsNext, after_success, after_fault};
@@ -57,7 +57,7 @@ impl<'a> Source for ListSource<'a> {
         ensures untouched { OnErr result (buf.new ≡ buf.old) }
         ensures counted { self.old.calls.faults ≤ self.new.calls.faults }
 
-        // Any other moves what fits, up to a piece, and is the end only where nothing is left.
+        // Any other read moves what fits, up to a piece, and is the end only where nothing remains.
         ensures count { IfOk result (λ n. n ≡ min (min (length buf.old) self.old.piece) (length self.old.left)) }
         ensures bytes { IfOk result (λ n. buf.new ≡ take n self.old.left ++ drop n buf.old) }
         ensures ends { IfOk result (λ n. n ≡ 0 → self.old.left ≡ []) }

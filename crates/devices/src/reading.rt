@@ -7,7 +7,7 @@ ghost use Rattle.devices.specs.Counter.{Rose};
 use crate::device::{Failed, Source};
 use std::alloc::AllocError;
 
-/// The most bytes that one read is asked for.
+/// The most bytes that one read requests.
 const BUFFER: usize = 4096;
 
 /// Why reading stopped before the end.
@@ -44,8 +44,8 @@ impl From<AllocError> for ReadStop {
 /// Reads into the empty store until the source ends, or until `most` bytes were read.
 ///
 /// # Errors
-/// `Failed` where a read failed; `OutOfMemory` where the store cannot grow. What was read stands in
-/// the store.
+/// `Failed` where a read failed; `OutOfMemory` where the store cannot grow. What was read is in the
+/// store.
 pub fn read_all<S: Source>(source: &mut S, store: &mut Vec<u8>, most: usize) -> Result<(), ReadStop>
     requires { store.old.items ≡ [] }
 
@@ -57,7 +57,7 @@ pub fn read_all<S: Source>(source: &mut S, store: &mut Vec<u8>, most: usize) -> 
     ensures short { OnOk result (vec_len store.new < most → NothingLeft (S.left source.new)) }
     ensures stopped { OnErr result (vec_len store.new < most) }
 
-    // A source that does not tell its bytes is read to its end as well, and not past it.
+    // A source that does not report its bytes is read to its end as well, and not past it.
     ensures to_the_end { OnOk result (IsNone (S.left source.old) → S.since_end source.old ≡ None → vec_len store.new < most → S.since_end source.new ≡ Some 0) }
     ensures not_past { IsNone (S.left source.old) → S.since_end source.old ≡ None → IsNotPassed (S.since_end source.new) }
 
@@ -68,7 +68,7 @@ pub fn read_all<S: Source>(source: &mut S, store: &mut Vec<u8>, most: usize) -> 
 {
     let mut buffer = [0u8; BUFFER];
     'reads: while store.len() < most {
-        // The room is there before the bytes are, so running out of memory loses none.
+        // The capacity is there before the bytes are, so running out of memory loses none.
         store.reserve(BUFFER)?;
         let room = (most - store.len()).min(BUFFER);
         let count = source.read(&mut buffer[..room])?;

@@ -5,7 +5,8 @@ ghost use Rattle.std.specs.Prelude.{None, ◌≡◌, ◌<◌, ◌++◌, ℕ, Lis
 use crate::device::{Failed, Source};
 use std::marker::Model;
 
-/// Gives the bytes of a slice, as many as the buffer takes, and never fails. A contract sees the bytes left.
+/// Gives the bytes of a slice, as many as fit in the buffer, and never fails. A contract sees the
+/// bytes that remain.
 #[derive(Drop)]
 pub struct SliceSource<'a> {
     rest: &'a [u8],

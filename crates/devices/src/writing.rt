@@ -9,7 +9,7 @@ use crate::device::{Failed, Sink};
 /// Writes the text, until all of it is written or a write fails.
 ///
 /// # Errors
-/// `Failed` where a write failed; a part of the text was appended, and not the whole.
+/// `Failed` where a write failed; a part of the text was appended, and not all of it.
 pub fn write_all<K: Sink>(sink: &mut K, text: &[u8]) -> Result<(), Failed>
     ensures ok { OnOk result (AppendsFront (K.held sink.old) text.now (K.held sink.new)) }
     ensures err { OnErr result (AppendsPart (K.held sink.old) text.now (K.held sink.new)) }

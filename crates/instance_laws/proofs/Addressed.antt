@@ -78,7 +78,7 @@ module _ {A : Type 0} (a : Addresses) (objects : Objects A) (free : AreFree a ob
       own-last k place (unwrap_or (item_at (a.first + k) place (addressed a p)) d) ps
       ∙ ap (λ (o : Option A). last_item (length a.imported + k) place (unwrap_or o d) ps) (own-item k place p)
 
-  -- what stands at a place of an own object after a phase
+  -- what is at a position of an own object after a phase
   pub own-content : (ps : List (Piece A)) (k place : ℕ) → content_of (phase_over a (allocated objects a.first sizes initial) ps) (a.first + k) place
       ≡ last_item (length a.imported + k) place (initial k place) (before_trap (index_sizes a objects sizes) ps)
   own-content ps k place =

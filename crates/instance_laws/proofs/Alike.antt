@@ -8,7 +8,8 @@ use Rattle.instance_laws.specs.Objects.{Objects, Addresses, AreFree, allocated, 
 use Rattle.instance_laws.specs.Instances.{after, SameObjects}
 use Rattle.instance_laws.proofs.Addressed.{index_sizes, size-own, same-trap, own-content, other-content}
 
--- a phase over indices: its sizes are those of an instance's objects, and own ones hold these items at first
+-- a phase over indices: its sizes are those of an instance's objects, and own ones hold these items
+-- at first
 pub record IsByIndex {A : Type 0} (a : Addresses) (objects : Objects A) (sizes : List ℕ) (initial : ℕ → ℕ → A) (ps : List (Piece A)) (phase : Phase A) : Type 0 where
   pub same_sizes : (i : ℕ) → phase.sizes i ≡ index_sizes a objects sizes i
   pub traps : trap_of phase ≡ trap (index_sizes a objects sizes) ps

@@ -42,7 +42,7 @@ module _ (a : Addresses) (objects : Objects ℕ) (free : AreFree a objects) (glo
   memory-sizes ns e = ap {B = ℕ → ℕ} (λ (xs : List ℕ) (i : ℕ). slice_index (map length contents ++ xs) i) e
       ∙ ap {B = ℕ → ℕ} (λ (xs : List ℕ) (i : ℕ). slice_index (xs ++ sizes_of_all) i) (lengths-filled objects 0 a.imported)
 
-  -- own memories hold zeros, over which images lie
+  -- own memories hold zeros, with images over them
   by-index : (ns : List ℕ) → ns ≡ sizes_of_all → (laid ps : List (Piece ℕ))
       → IsByIndex a objects sizes_of_all (λ k place. last_item (length a.imported + k) place 0 laid) ps
       (record { sizes = memory_sizes contents ns; base = λ object place. last_item object place (memory_base contents object place) laid; pieces = ps })
@@ -79,7 +79,7 @@ module _ (a : Addresses) (objects : Objects ℕ) (free : AreFree a objects) (glo
       subst (λ (m : ℕ). length a.imported ≤ m) e
       (home options (length a.imported) memories active p.static page j image (p.are_images.each j (Some image) at)).defined)
 
-  -- ---- what a plan writes, and what lies in its memories
+  -- ---- what a plan writes, and what is in its memories
 
   -- pieces on own memories leave what none leaves
   on-own : (ps : List (Piece ℕ)) → OnOwn (length a.imported) ps → All (IsPlaced (length a.imported) memories) active → LeaveAlike a objects sizes_of_all of_module ps
@@ -116,7 +116,7 @@ module _ (a : Addresses) (objects : Objects ℕ) (free : AreFree a objects) (glo
   abbrev pub zeros : ℕ → ℕ → ℕ
   zeros k place = 0
 
-  -- what an image lays in an own memory
+  -- what an image puts into an own memory
   abbrev pub laid : ℕ → ℕ → ℕ
   laid k place = last_item (length a.imported + k) place 0 (image_pieces plan 0 plan.images)
 

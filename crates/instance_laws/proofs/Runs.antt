@@ -11,7 +11,7 @@ nothing-chosen : {A : Type 0} (b : Bool) (d : A) → unwrap_or (if b then None e
 nothing-chosen true d = refl
 nothing-chosen false d = refl
 
--- the first item of some stands at its place, and the others stand one place further on
+-- the first item of some is at its position, and the others are one position further on
 item-more : {A : Type 0} (x d : A) (xs : List A) (b : Bool) (offset p : ℕ)
     → unwrap_or (if b && nat_le (suc offset) p then slice_get xs (p - suc offset) else None) (if b && offset == p then x else d)
     ≡ unwrap_or (if b && nat_le offset p then slice_get (x ∷ xs) (p - offset) else None) d
@@ -24,14 +24,14 @@ item-more x d xs true offset p = ⊎_elim
     other)
     (cases_order offset p)
 
--- after its items are stored, a piece's item stands where it covers a place
+-- after a piece's items are stored, its item is at each position that it covers
 initialised-at : {A : Type 0} (store : Store A) (object offset : ℕ) (items : List A) (o p : ℕ)
     → initialised store object offset items o p ≡ unwrap_or (item_at o p (record { object = object; offset = offset; items = items })) (store o p)
 initialised-at store object offset [] o p = sym (nothing-chosen (object == o && nat_le offset p) (store o p))
 initialised-at store object offset (x ∷ xs) o p =
     initialised-at (stored store object offset x) object (suc offset) xs o p ∙ item-more x (store o p) xs (object == o) offset p
 
--- a run leaves at each place the item of the last piece before the trap that covers it
+-- a run leaves at each position the item of the last piece before the trap that covers it
 run-places : {A : Type 0} (sizes : ℕ → ℕ) (store : Store A) (ps : List (Piece A)) (o p : ℕ)
     → (run_pieces sizes store ps).store o p ≡ last_item o p (store o p) (before_trap sizes ps)
 run-places sizes store [] o p = refl

@@ -58,7 +58,7 @@ module _ (ta ma : Addresses) (r s : Recipe) (globals : r.globals ≡ s.globals) 
   with-data-alike alike None = record { globals = globals; tables = tables; memories = memories; end = rw (start, traps) refl }
   with-data-alike alike (Some number) = record { globals = globals; tables = tables; memories = alike; end = refl }
 
--- ---- the whole
+-- ---- all together
 
 module _ (ta ma : Addresses) (tables : Objects Value) (memories : Objects ℕ) (free_tables : AreFree ta tables) (free_memories : AreFree ma memories)
     (globals : List Value) (fields : ℕ → ℕ) (start : Option ℕ) (lazy : Bool) (defined : List DefinedTable) (elements : List ActiveElements) (table_plan : TablePlan)
@@ -76,7 +76,7 @@ module _ (ta ma : Addresses) (tables : Objects Value) (memories : Objects ℕ) (
     start = start;
   }
 
-  -- images lie in the memories already, and the kept segments are written
+  -- images are in the memories already, and the kept segments are written
   abbrev pub by_map : Recipe
   by_map = record of_module {
     cells = λ k place. planned_first globals fields (slice_get table_plan.tables k) place;

@@ -5,8 +5,8 @@ use Rattle.replay_spec.specs.Values.{Value}
 use Rattle.instance_laws.specs.Objects.{Objects, Addresses, allocated, phase_over}
 
 -- what an instance is made of: the values of its globals; the sizes of its own tables and memories
--- and what stands in them at first, each by its number; the element segments and the data segments
--- that are written, in order; and the start function
+-- and what is in them at first, each by its number; the element segments and the data segments that
+-- are written, in order; and the start function
 pub record Recipe : Type 0 where
   pub globals : List Value
   pub table_sizes : List ℕ
@@ -80,7 +80,7 @@ pub record SameInstance (Excepted : ℕ → Type 0) (one other : Instance) : Typ
   pub memories : SameObjects Excepted one.memories other.memories
   pub end : one.end ≡ other.end
 
--- where an element segment trapped, the memories that the instance itself defines, which stand from
--- an address on
+-- where an element segment trapped, the memories that the instance itself defines, which begin at
+-- an address
 abbrev pub OwnAfterTrap : ℕ → Instance → ℕ → Type 0
 OwnAfterTrap first instance at = TrappedInElements instance.end × (first ≤ at)

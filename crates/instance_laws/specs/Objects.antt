@@ -3,13 +3,13 @@
 use Rattle.std.specs.Prelude.{◌≡◌, ℕ, ◌+◌, ◌-◌, ◌<◌, ◌≤◌, nat_lt, nat_le, All, List, length, map, slice_index, if◌then◌else◌}
 use Rattle.replay_spec.specs.Phases.{Piece, Phase}
 
--- memories or tables by their addresses: how long each is, and what stands at its places
+-- memories or tables by their addresses: how long each is, and what is at its positions
 pub record Objects (A : Type 0) : Type 0 where
   pub sizes : ℕ → ℕ
   pub items : ℕ → ℕ → A
 
 -- the addresses of an instance's memories or tables: one for each that is imported, of which two
--- may be one, and the first of its own, which stand one behind the other
+-- may be one, and the first of its own, which follow one another
 pub record Addresses : Type 0 where
   pub imported : List ℕ
   pub first : ℕ
@@ -18,12 +18,12 @@ pub record Addresses : Type 0 where
 abbrev pub address : Addresses → ℕ → ℕ
 address a i = if nat_lt i (length a.imported) then slice_index a.imported i else a.first + (i - length a.imported)
 
--- imported objects are among those that there are, and nothing stands yet at the addresses of its own
+-- imported objects are among those that there are, and nothing is yet at the addresses of its own
 pub record AreFree {A : Type 0} (a : Addresses) (objects : Objects A) : Type 0 where
   pub imported : All (λ at. at < a.first) a.imported
   pub free : (at : ℕ) → a.first ≤ at → objects.sizes at ≡ 0
 
--- its own objects are allocated, of these sizes, with what stands in each at first
+-- its own objects are allocated, of these sizes, with what is in each at first
 abbrev pub allocated : {A : Type 0} → Objects A → ℕ → List ℕ → (ℕ → ℕ → A) → Objects A
 allocated objects first sizes initial = record {
   sizes = λ at. if nat_le first at then slice_index sizes (at - first) else objects.sizes at;

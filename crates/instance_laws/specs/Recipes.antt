@@ -46,7 +46,8 @@ recipe_by_list fields t imported = let globals = planned_globals fields imported
   start = option_map number_of t.start_func;
 }
 
--- the plan by its map: memories begin as their images too, and the entries with an expression are written
+-- the plan by its map: memories begin as their images too, and the entries with an expression are
+-- written
 abbrev pub recipe_by_map : (ℕ → ℕ) → ModuleTranslation → List Value → Recipe
 recipe_by_map fields t imported = let plan = memory_plan_of t in record (recipe_by_list fields t imported) {
   bytes = λ k place. last_item (t.module.num_imported_memories + k) place 0 (image_pieces plan 0 plan.images);

@@ -13,7 +13,8 @@ use Rattle.instance_laws.specs.Objects.{Objects, Addresses}
 use Rattle.instance_laws.specs.Instances.{Instance, instantiated}
 use Rattle.instance_laws.specs.Recipes.{recipe_of_module}
 
--- ---- what stands already: a memory of one page with zeros at address 7, and a table at address 3, whose two cells another instance filled with a reference of its own
+-- ---- what is there already: a memory of one page with zeros at address 7, and a table at address
+-- 3, whose two cells another instance filled with a reference of its own
 
 abbrev pub one_memory : Objects ℕ
 one_memory = record { sizes = λ at. if at == 7 then 65536 else 0; items = λ at place. 0 }
@@ -51,13 +52,14 @@ two_cells_of_functions = record { element_type = functions_only; table64 = false
 abbrev pub written_to : ℕ → ℕ → List ℕ → Segment
 written_to memory offset bytes = record { kind = Active memory (op.I32Const (pos offset) ∷ []); bytes = bytes }
 
--- it imports two memories, `a` and `b`, and writes 1, 2, 3 at 16 of the first and 9 at 17 of the second
+-- it imports two memories, `a` and `b`, and writes 1, 2, 3 at 16 of the first and 9 at 17 of the
+-- second
 abbrev pub two_names : Module
 two_names = Imports (import_as 0x61 (imported.Memory one_page) ∷ import_as 0x62 (imported.Memory one_page) ∷ [])
     ∷ Segments (written_to 0 16 (1 ∷ 2 ∷ 3 ∷ []) ∷ written_to 1 17 (9 ∷ []) ∷ []) ∷ []
 
 -- it imports a table of two cells and a memory, and writes functions from a cell of the table on, 7
--- at 16 of the memory, and 8 at a place
+-- at 16 of the memory, and 8 at an offset
 abbrev pub filling : ℕ → List ℕ → ℕ → Module
 filling cell functions place = Imports (import_as 0x74 (imported.Table two_cells_of_functions) ∷ import_as 0x61 (imported.Memory one_page) ∷ [])
     ∷ Elements (record { kind = ActiveElement None (op.I32Const (pos cell) ∷ []); items = Functions functions } ∷ [])

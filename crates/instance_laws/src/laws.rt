@@ -10,7 +10,7 @@ ghost use Rattle.translate.specs.Planned.{IsPlanned};
 ghost use Rattle.instance_laws.specs.Recipes.{InstantiatesAlike};
 ghost use Rattle.instance_laws.specs.Running.{LeavesPhase};
 
-/// What a phase leaves at each place, and where it traps, is what running its segments in turn
+/// What a phase leaves at each position, and where it traps, is what running its segments in turn
 /// gives: of bytes in memories, and of cells in tables.
 pub fn phase_law()
     ensures bytes { (phase : Phase ℕ) → LeavesPhase phase }

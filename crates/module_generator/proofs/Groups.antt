@@ -13,7 +13,7 @@ groups-more : (top more n : ℕ) → top ≤ n → groups top (suc more) n ≡ (
 unfolding groups
 groups-more top more n longer = rw (le-ltb n top longer)
 
--- with the spelling of what is left, the bytes become the whole
+-- with the spelling of what remains, the bytes are complete
 pub record Spelled (bytes : List ℕ) (top rest : ℕ) (whole : List ℕ) : Type 0 where
   pub more : ℕ
   pub within : rest < 64 * 128 ^ more

@@ -15,7 +15,7 @@ function_type k = (0x60 ∷ 16 ∷ map (parameter k) (range_with_len 0 16)) ++ 0
 unfoldable pub table_contents : ℕ → List ℕ
 table_contents n = 1 ∷ 0x70 ∷ 0 ∷ unsigned n
 
--- at offset 0 of the table, function 0 in each place
+-- at offset 0 of the table, function 0 in each element
 unfoldable pub element_contents : ℕ → List ℕ
 element_contents n = 1 ∷ 0 ∷ 0x41 ∷ 0 ∷ 0x0B ∷ vector n (λ k. 0 ∷ [])
 
@@ -23,7 +23,8 @@ element_contents n = 1 ∷ 0 ∷ 0x41 ∷ 0 ∷ 0x0B ∷ vector n (λ k. 0 ∷ [
 unfoldable pub segment : ℕ → List ℕ
 segment k = (0 ∷ 0x41 ∷ signed (20 * k)) ++ (0x0B ∷ 12 ∷ replicate 12 (k % 255 + 1))
 
--- n types, one function of the first type, a table of n places, a memory of 32 pages, and n segments
+-- n types, one function of the first type, a table of n elements, a memory of 32 pages, and n
+-- segments
 unfoldable pub generated_module : ℕ → List ℕ
 generated_module n =
     (0 ∷ 97 ∷ 115 ∷ 109 ∷ 1 ∷ 0 ∷ 0 ∷ 0 ∷ [])

@@ -27,7 +27,7 @@ pub(crate) fn push_unsigned(bytes: &mut Vec<u8>, number: u64) -> Result<(), OutO
     push_groups(bytes, number, 128)
 }
 
-/// Appends a number where one with a sign stands.
+/// Appends a number in place of a signed one.
 #[tactic(auto, unfolding(crate::specs::Spelling::signed))]
 pub(crate) fn push_signed(bytes: &mut Vec<u8>, number: u64) -> Result<(), OutOfMemory>
     ensures { OnOk result (bytes.new.items ≡ bytes.old.items ++ signed number) }

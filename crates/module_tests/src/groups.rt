@@ -94,7 +94,8 @@ fn module_type(number: u32) -> EngineOrModuleTypeIndex
     EngineOrModuleTypeIndex::Module(ModuleInternedTypeIndex::from_u32(number))
 }
 
-// The first group twice, then the second: groups 0, 0 and 1. Each has one type, and is called by it.
+// The first group twice, then the second: groups 0, 0 and 1. Each has one type, and is called by
+// it.
 fn intern_both(rt: &impl Abort, builder: &mut ModuleTypesBuilder, types: &Types) -> Result<(), Fail>
     requires { HoldsFirst types.now (builder_view builder.old) 0 }
 {

@@ -160,8 +160,9 @@ fn insert_texts(
     Ok((first, second))
 }
 
-// One import and two definitions of each kind. The imports are a function, a table, a memory, a global, a tag
-// and the function again; the last table, the first memory and the last global are exported.
+// One import and two definitions of each kind. The imports are a function, a table, a memory, a
+// global, a tag and the function again; the last table, the first memory and the last global are
+// exported.
 fn fill(module: &mut Module) -> Result<(), OutOfMemory>
     requires strings { module.old.strings ≡ [] }
     requires initializers { module.old.initializers.items ≡ [] }

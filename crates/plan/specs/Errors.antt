@@ -1,4 +1,4 @@
--- What each layer's error is to the whole.
+-- What each layer's error becomes as an error of the planner.
 use Rattle.module_environ.specs.declared.error.EnvironError.{EnvironError}
 use Rattle.module_environ.specs.declared.error.EnvironError.TheVariants as environ
 use Rattle.init_plan.specs.declared.error.PlanError.{PlanError}

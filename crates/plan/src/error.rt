@@ -14,11 +14,11 @@ use wasm_spec::What;
 /// Why bytes have no plan.
 #[derive(Clone, Copy, Debug, PartialEq, Eq)]
 pub enum TranslateError {
-    /// The bytes spell no module, and reading them comes to no spelling that is not taken.
+    /// The bytes spell no module, and reading them reaches no unsupported spelling.
     Malformed,
     /// The module breaks a listed rule.
     Invalid(Rule),
-    /// Reading comes to a spelling that is not taken.
+    /// Reading reaches a spelling that is not supported.
     Unsupported(What),
     /// The input has 2^30 bytes or more, or the runtime data pass 4294967295 bytes.
     TooLarge,

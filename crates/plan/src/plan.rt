@@ -9,11 +9,13 @@ use wasm_index::ModuleInternedTypeIndex;
 
 /// What a module becomes before any code is made of it.
 pub struct Plan<'d> {
-    /// Its translation, with images of memories and tables, and with what is left to be written at the start.
+    /// Its translation, with images of memories and tables, and with what remains to be written at
+    /// the start.
     pub translation: ModuleTranslation<'d>,
     /// Its interned types.
     pub types: ModuleTypes,
-    /// The layout of the objects of each interned type; function types and continuation types have none.
+    /// The layout of the objects of each interned type; function types and continuation types have
+    /// none.
     pub layouts: PrimaryMap<ModuleInternedTypeIndex, Option<GcLayout>>,
     /// The layout of its context, for pointers of 4 or 8 bytes.
     pub offsets: VMOffsets<u8>,

@@ -6,11 +6,12 @@ use std::alloc::{AllocError, Global};
 #[derive(Clone, Copy)]
 pub enum CaseError {
     OutOfMemory,
-    /// A line begins with no word that is known.
+    /// A line begins with no known word.
     UnknownLine,
-    /// A line stands before the name, or there is a second name.
+    /// A line is before the name, or there is a second name.
     Name,
-    /// A piece is neither bytes of two hexadecimal digits each, nor text in quotes, nor a run of bytes.
+    /// A piece is neither bytes of two hexadecimal digits each, nor text in quotes, nor a run of
+    /// bytes.
     UnknownPiece,
     /// A number is missing, is not a number, or is out of its range.
     NoNumber,
@@ -69,7 +70,7 @@ pub struct DataBytes {
 #[derive(Drop)]
 pub struct Expected {
     pub status: u64,
-    /// The text that is written, and whether the case gives the whole of it.
+    /// The text that is written, and whether the case gives all of it.
     pub text: String,
     pub is_text_said: bool,
     /// Lines that the text has.
@@ -127,7 +128,7 @@ pub fn empty_case(alloc: Global) -> Result<Box<Case>, AllocError> {
     Ok(Box::new(alloc, case)?)
 }
 
-/// Whether the case has a name. No line of another kind is taken before its name, so a block
+/// Whether the case has a name. No line of another kind is accepted before its name, so a block
 /// without one has comments alone.
 pub fn is_named(case: &Case) -> bool {
     !case.name.is_empty()

@@ -76,7 +76,7 @@ fn wrong_data<'a>(wanted: &'a [DataBytes], data: &[Vec<u8>]) -> Option<Differenc
     None
 }
 
-/// The difference in the status, in how many bytes were read or in the whole text.
+/// The difference in the status, in how many bytes were read or in the complete text.
 fn wrong_end<'a>(expected: &'a Expected, outcome: &Outcome) -> Option<Difference<'a>> {
     if u64::from(outcome.status) != expected.status {
         return Some(Difference::Status(expected.status));

@@ -1,4 +1,4 @@
-//! A program that runs the planner over the cases of text files, for tests of the whole.
+//! A program that runs the planner over the cases of text files, for tests of the complete planner.
 //!
 //! It reports each case whose outcome differs from what its file wants, and counts cases and
 //! failures. The cases are in `data/`, and the folder's README explains their lines.
@@ -68,7 +68,8 @@ fn try_case(rt: &HostRuntime, path: &str, case: &Case) -> io::Result<bool> {
     Ok(case.given.shortest <= case.given.longest)
 }
 
-/// Runs the case of a block, if it is one, and counts it; its bytes become those of the case before.
+/// Runs the case of a block, if it is one, and counts it; its bytes become those of the case
+/// before.
 fn try_block(
     rt: &HostRuntime,
     path: &str,
@@ -96,7 +97,7 @@ fn try_block(
     Ok(())
 }
 
-/// Runs the cases of a file, between which stand empty lines.
+/// Runs the cases of a file, between which there are empty lines.
 fn try_file(rt: &HostRuntime, path: &str, totals: &mut Totals) -> io::Result<()> {
     let text = fs::read_to_string(rt, path)?;
     let mut before = Vec::new(rt.alloc());

@@ -19,7 +19,7 @@ hexadecimal-suc (suc k) n =
     ap (λ ds. ds ++ digit_glyph false (n % 16) ∷ []) (hexadecimal-suc k (n / 16))
     ∙ ap (λ m. digit_glyph false (m % 16) ∷ (hexadecimal k (n / 16) ++ digit_glyph false (n % 16) ∷ [])) (div-digits k n)
 
--- a text that has got the first of k + 1 digits lacks the other k
+-- a text that has the first of k + 1 digits lacks the other k
 pub hexadecimal-next : (text longer : List ℕ) (k n digit : ℕ)
     → digit ≡ digit_glyph false (n / 2 ^ (4 * k) % 16) → longer ≡ text ++ digit ∷ []
     → longer ++ hexadecimal k n ≡ text ++ hexadecimal (suc k) n

@@ -1,4 +1,4 @@
--- Bytes that stand for themselves.
+-- Bytes that are printed as they are.
 use Rattle.std.proofs.Common.{◌≡◌, List, [], ◌∷◌, ◌++◌, ap, ◌∙◌, refl}
 use Rattle.std.specs.Prelude.{IsTrue, All, ℕ}
 use Rattle.std.proofs.lemmas.List.Elements.{All-head, All-tail}

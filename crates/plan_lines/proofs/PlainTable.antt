@@ -1,4 +1,4 @@
--- A table of digits is held against a test at each of the 256 bytes, by computing.
+-- A table of digits is compared with a test at each of the 256 bytes, by computing.
 use Rattle.std.proofs.Common.{◌≡◌, ℕ, zero, suc, ◌<◌, Bool, true, false, ◌&&◌, nat_eq, get_or, List, refl, arith, inl, inr}
 use Rattle.std.specs.Bool.{beq}
 use Rattle.std.proofs.lemmas.Bool.{cases_eq}

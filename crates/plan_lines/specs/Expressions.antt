@@ -8,12 +8,13 @@ use Rattle.wasm_convert.specs.declared.operands.Operands.{Operands}
 use Rattle.wasm_convert.specs.declared.operands.Operands.TheVariants as operand
 use Rattle.wasm_convert.specs.Operators.{name_of_operator, operands_of}
 
--- the last digits of a number in base 16, in lower case, as many as are asked for
+-- the last digits of a number in base 16, in lower case, as many as requested
 unfoldable pub hexadecimal : ℕ → ℕ → List ℕ
 hexadecimal zero n = []
 hexadecimal (suc others) n = hexadecimal others (n / 16) ++ digit_glyph false (n % 16) ∷ []
 
--- what follows a name: integers are signed, floats and vectors are their bits, an index is its number
+-- what follows a name: integers are signed, floats and vectors are their bits, an index is its
+-- number
 abbrev pub operands_text : Operands → List ℕ
 operands_text operand.None = []
 operands_text (operand.I32 value) = codes " " ++ signed_decimal value

@@ -13,7 +13,7 @@ abbrev pub alignment_lines : Option ℕ → List ℕ
 alignment_lines None = []
 alignment_lines (Some align) = numbers_line (codes "data-align") (align ∷ [])
 
--- the image of a memory that has one: its place in the memory, and its runtime data
+-- the image of a memory that has one: its offset in the memory, and its runtime data
 abbrev pub image_lines : Index MemorySpace → Option (ℕ × Index RuntimeDataSpace) → List ℕ
 image_lines memory None = []
 image_lines memory (Some image) = numbers_line (codes "image") (number_of memory ∷ image.0 ∷ number_of image.1 ∷ [])

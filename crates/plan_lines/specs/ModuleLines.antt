@@ -18,11 +18,11 @@ use Rattle.plan_lines.specs.TypeLines.{listed_number}
 abbrev pub HasNames : List (List ℕ) → Initializer → Type 0
 HasNames pool (Import name field e) = IsInPool pool name × IsInPool pool field
 
--- what a module is given, with its place
+-- an import of a module, with its index among the imports
 abbrev pub initializer_line : List (List ℕ) → ℕ → Initializer → List ℕ
 initializer_line pool place (Import name field e) = import_line pool place name field e
 
--- all that a module is given, where the first stands at place n
+-- all imports of a module, of which the first has index n
 abbrev pub initializer_lines_from : List (List ℕ) → ℕ → List Initializer → List ℕ
 initializer_lines_from pool n [] = []
 initializer_lines_from pool n (i ∷ is) = initializer_line pool n i ++ initializer_lines_from pool (n + 1) is
@@ -39,7 +39,7 @@ count_lines m =
 abbrev pub gc_heap_line : Bool → List ℕ
 gc_heap_line needed = if needed then codes "gc-heap yes\n" else codes "gc-heap no\n"
 
--- a function that escapes, and its number among those; other functions have no line
+-- a function that escapes, and its index among those; other functions have no line
 abbrev pub escape_lines : Index FuncSpace → FunctionType → List ℕ
 escape_lines index function =
     if number_of function.func_ref == reserved_number then [] else numbers_line (codes "escape") (number_of index ∷ number_of function.func_ref ∷ [])

@@ -24,7 +24,7 @@ kind_text (entity.Memory i) = codes "memory"
 kind_text (entity.Global i) = codes "global"
 kind_text (entity.Tag i) = codes "tag"
 
--- the number of an entity among those of its kind
+-- the index of an entity among those of its kind
 abbrev pub kind_number : EntityIndex → ℕ
 kind_number (entity.Function i) = number_of i
 kind_number (entity.Table i) = number_of i
@@ -36,7 +36,7 @@ kind_number (entity.Tag i) = number_of i
 abbrev pub entity_text : EntityIndex → List ℕ
 entity_text e = kind_text e ++ codes " " ++ decimal (kind_number e)
 
--- an import: its place among the imports, the name of the module from which it comes, its own name,
+-- an import: its index among the imports, the name of the module from which it comes, its own name,
 -- and its entity
 unfoldable pub import_line : List (List ℕ) → ℕ → Atom → Atom → EntityIndex → List ℕ
 import_line pool place name field e =

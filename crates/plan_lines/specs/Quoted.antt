@@ -7,7 +7,7 @@ use Rattle.plan_lines.specs.Expressions.{hexadecimal}
 abbrev pub is_plain : ℕ → Bool
 is_plain byte = nat_le 0x20 byte && nat_le byte 0x7E && not (byte == 0x22) && not (byte == 0x5C)
 
--- a plain byte stands for itself; any other is a backslash and two digits of base 16
+-- a plain byte is printed as it is; any other is a backslash and two digits of base 16
 abbrev pub quoted_byte : ℕ → List ℕ
 quoted_byte byte = if is_plain byte then byte ∷ [] else 0x5C ∷ hexadecimal 2 byte
 

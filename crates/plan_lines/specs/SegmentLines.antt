@@ -1,4 +1,5 @@
--- The lines of what is written at the start: element segments, first values of tables, and data segments.
+-- The lines of what is written at the start: element segments, first values of tables, and data
+-- segments.
 use Rattle.std.specs.Prelude.{ℕ, List, [], ◌++◌, codes, decimal}
 use Rattle.std.specs.List.{flat_map}
 use Rattle.wasm_index.specs.declared.index.Index.{Index}
@@ -28,7 +29,7 @@ abbrev pub table_value_lines : Index DefinedTableSpace → TableInitialValue →
 table_value_lines table initial.Null = []
 table_value_lines table (initial.Expr e) = table_expression_line table e
 
--- an active element segment: its table, the number of its elements, and its place
+-- an active element segment: its table, the number of its elements, and its offset
 unfoldable pub element_line : TableSegment → List ℕ
 element_line s =
     codes "element " ++ decimal (number_of s.table_index) ++ codes " " ++ decimal (element_count s.elements)
@@ -48,7 +49,7 @@ abbrev pub offset_text : MemorySegmentOffset → List ℕ
 offset_text (offset.Expr e) = expression_text e
 offset_text (offset.Static place) = codes "static " ++ decimal place
 
--- a planned segment: its memory, its runtime data and its place
+-- a planned segment: its memory, its runtime data and its offset
 unfoldable pub segment_line : ℕ → ℕ → MemorySegmentOffset → List ℕ
 segment_line memory index place = codes "segment " ++ decimal memory ++ codes " " ++ decimal index ++ codes " at " ++ offset_text place ++ codes "\n"
 

@@ -11,7 +11,7 @@ use Rattle.wasm_types.specs.declared.value.WasmRefType.{WasmRefType}
 use Rattle.wasm_types.specs.Texts.{ref_text}
 use Rattle.plan_lines.specs.Numbers.{named_number}
 
--- a cell of an image: a function, or the null reference, for which the reserved index stands
+-- a cell of an image: a function, or the null reference, which the reserved index represents
 abbrev pub cell_text : Index FuncSpace → List ℕ
 cell_text f = if number_of f == reserved_number then codes " null" else codes " " ++ decimal (number_of f)
 

@@ -10,7 +10,7 @@ use Rattle.module_types.specs.Views.{TypeIndex}
 use Rattle.plan_lines.specs.Numbers.{numbers_line, keyed_lines}
 use Rattle.plan_lines.specs.TypeLines.{type_line}
 
--- each type with the trampoline at its place, where the first has a number
+-- each type with the trampoline at its index, where the first type has a given number
 abbrev pub type_lines_from : ℕ → List WasmSubType → List (Option TypeIndex) → List ℕ
 type_lines_from n [] trampolines = []
 type_lines_from n (type ∷ types) [] = type_line (index_of n) type None ++ type_lines_from (n + 1) types []
@@ -25,14 +25,14 @@ unfoldable pub type_list_lines : TypeList → List ℕ
 type_list_lines l =
     numbers_line (codes "types") (length l.types ∷ []) ++ type_lines_from 0 l.types l.trampolines ++ keyed_lines group_line l.groups
 
--- ---- the trampolines that are left, of which the next is taken where it is that of a type
+-- ---- the trampolines that remain, of which the next is taken where it is that of a type
 
 -- the trampoline that is taken
 abbrev pub taken_at : ℕ → List (TypeIndex × TypeIndex) → Option TypeIndex
 taken_at n [] = None
 taken_at n (next ∷ others) = if number_of next.0 == n then Some next.1 else None
 
--- those that are left then
+-- those that remain then
 abbrev pub left_after : ℕ → List (TypeIndex × TypeIndex) → List (TypeIndex × TypeIndex)
 left_after n [] = []
 left_after n (next ∷ others) = if number_of next.0 == n then others else next ∷ others

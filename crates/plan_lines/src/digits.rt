@@ -1,4 +1,4 @@
-//! The digits of a number, written into room that is there.
+//! The digits of a number, written into capacity that is already reserved.
 
 ghost use Rattle.std.specs.Prelude.{◌≡◌, ◌+◌, ◌*◌, ◌/◌, ◌%◌, ◌<◌, ◌≤◌, ◌++◌, ◌∷◌, [], ℕ, length, take, codes, decimal};
 ghost use Rattle.std.specs.Fmt.{signed_decimal};

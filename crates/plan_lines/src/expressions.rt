@@ -84,7 +84,7 @@ fn append_followed(text: &mut Text, name: &str, operands: Operands) -> Result<()
     }
 }
 
-// Appends an operator that is only lent, so that a long expression is not copied.
+// Appends an operator that is only borrowed, so that a long expression is not copied.
 #[inline(always)]
 fn append_lent(text: &mut Text, operator: &ConstOp) -> Result<(), OutOfMemory>
     ensures { OnOk result (text.new ≡ text.old ++ operator_text operator.now) }

@@ -27,7 +27,8 @@ fn append_initializer(
     append_import(text, pool, place, *name, *field, *index)
 }
 
-/// Appends the lines of the imports, which are numbered from 0. The texts of their names must be in the pool.
+/// Appends the lines of the imports, which are numbered from 0. The texts of their names must be in
+/// the pool.
 pub fn append_imports(
     text: &mut Text,
     pool: &StringPool,

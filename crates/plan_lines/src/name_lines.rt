@@ -35,7 +35,7 @@ fn append_entity(text: &mut Text, entity: EntityIndex) -> Result<(), OutOfMemory
     append_between(text, kind, number.into(), "\n")
 }
 
-/// Appends the line of an import, with its place among the imports. The texts of its names must be
+/// Appends the line of an import, with its index among the imports. The texts of its names must be
 /// in the pool.
 #[tactic(auto, unfolding(crate::specs::NameLines::import_line))]
 pub fn append_import(

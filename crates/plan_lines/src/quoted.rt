@@ -7,7 +7,7 @@ use crate::room::{make_room, put, put_byte};
 use crate::text::Text;
 use entity_map::OutOfMemory;
 
-// For each byte a digit, which is 1 where the byte stands for itself.
+// For each byte a digit, which is 1 where the byte is printed as it is.
 static PLAIN: [u8; 256] = *b"\
     00000000000000000000000000000000\
     11011111111111111111111111111111\
@@ -18,7 +18,7 @@ static PLAIN: [u8; 256] = *b"\
     00000000000000000000000000000000\
     00000000000000000000000000000000";
 
-// Whether a byte stands for itself.
+// Whether a byte is printed as it is.
 fn is_plain(byte: u8) -> bool
     ensures { result ≡ is_plain byte }
 {
@@ -61,7 +61,8 @@ fn append_bytes(text: &mut Text, bytes: &[u8]) -> Result<(), OutOfMemory>
     Ok(())
 }
 
-/// Appends a name between quotes. A byte that does not stand for itself is a backslash and its two digits.
+/// Appends a name between quotes. A byte that is not printed as it is becomes a backslash and its
+/// two digits.
 pub fn append_quoted(text: &mut Text, words: &str) -> Result<(), OutOfMemory>
     ensures { OnOk result (text.new ≡ text.old ++ quoted_text words.now) }
 {

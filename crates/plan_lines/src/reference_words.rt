@@ -1,4 +1,4 @@
-//! The text of a reference type, word by word, into room that is there for the longest.
+//! The text of a reference type, word by word, into capacity that is reserved for the longest.
 
 ghost use Rattle.std.specs.Prelude.{◌≡◌, ◌+◌, ◌≤◌, ◌++◌, length, take, OnOk, codes, decimal};
 ghost use Rattle.wasm_types.specs.Texts.{index_text, heap_text, ref_text};

@@ -1,14 +1,14 @@
-//! Room in memory, of which the first bytes are in use. What is written says where it ends; what is
-//! behind may be anything.
+//! A buffer in memory, of which the first bytes are in use. What is written says where it ends; the
+//! bytes behind may be anything.
 
 ghost use Rattle.std.specs.Prelude.{◌≡◌, ◌+◌, ◌<◌, ◌≤◌, ◌++◌, ◌∷◌, [], ℕ, length, take, vec_len, OnOk};
 
 use entity_map::OutOfMemory;
 
-// What is added where no more is asked for.
+// What is added where no more is requested.
 static BLOCK: [u8; 1024] = [0; 1024];
 
-// Makes room for so many bytes more behind those in use, which stay.
+// Reserves capacity for so many more bytes behind those in use, which stay.
 #[inline(always)]
 pub(crate) fn make_room(
     room: &mut Vec<u8>,
@@ -26,8 +26,8 @@ pub(crate) fn make_room(
     extend(room, additional)
 }
 
-// Adds so many bytes at least. It is apart from the test of whether it is needed, which stands
-// where bytes are written.
+// Adds at least so many bytes. The test of whether it is needed is not here, but where bytes are
+// written.
 #[cold]
 #[inline(never)]
 fn extend(room: &mut Vec<u8>, additional: usize) -> Result<(), OutOfMemory>

@@ -1,4 +1,5 @@
-//! The lines of what is written at the start: element segments, first values of tables, and data segments.
+//! The lines of what is written at the start: element segments, first values of tables, and data
+//! segments.
 
 ghost use Rattle.std.specs.Prelude.{◌≡◌, ◌++◌, OnOk};
 ghost use Rattle.std.specs.List.{flat_map};
@@ -120,7 +121,7 @@ fn append_place(text: &mut Text, place: u64) -> Result<(), OutOfMemory>
     append_between(text, "static ", place, "")
 }
 
-/// Appends the place of a planned segment.
+/// Appends the offset of a planned segment.
 pub fn append_offset(text: &mut Text, offset: &MemorySegmentOffset) -> Result<(), OutOfMemory>
     ensures { OnOk result (text.new ≡ text.old ++ offset_text offset.now) }
 {

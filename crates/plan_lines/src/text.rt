@@ -13,7 +13,8 @@ use std::marker::Model;
 /// Bytes that are written from the first to the last. After a failure the text may end anywhere.
 #[derive(Drop)]
 pub struct Text {
-    // The bytes, and room behind them: so most writes are a test of its length, and a copy.
+    // The bytes, and spare capacity behind them: so most writes are a test of its length, and a
+    // copy.
     pub(crate) room: Vec<u8>,
     pub(crate) used: usize,
 }
@@ -39,7 +40,7 @@ impl Text {
         }
     }
 
-    /// The empty text, with room for `n` bytes.
+    /// The empty text, with capacity for `n` bytes.
     pub fn with_capacity(alloc: Global, n: usize) -> Result<Self, OutOfMemory>
         ensures { IfOk result (λ text. text ≡ []) }
     {
@@ -95,7 +96,8 @@ impl Text {
         self.push_str(buffer.format(number))
     }
 
-    /// Appends the last `digits` digits of a number in base 16, with zeros in front where it has fewer.
+    /// Appends the last `digits` digits of a number in base 16, with zeros in front where it has
+    /// fewer.
     pub fn push_hexadecimal(&mut self, number: u128, digits: usize) -> Result<(), OutOfMemory>
         requires { digits ≤ 32 }
         ensures { OnOk result (self.new ≡ self.old ++ hexadecimal digits number) }

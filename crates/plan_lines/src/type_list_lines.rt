@@ -14,7 +14,7 @@ use module_types::{ModuleTypes, TrampolineTypes};
 use std::marker::Model;
 use wasm_index::ModuleInternedTypeIndex;
 
-// The trampolines that are left, in the order of their types.
+// The trampolines that remain, in the order of their types.
 #[derive(Drop)]
 struct Trampolines<'a> {
     next: Option<(ModuleInternedTypeIndex, ModuleInternedTypeIndex)>,
@@ -42,7 +42,7 @@ impl<'a> Trampolines<'a> {
         Trampolines { next, others }
     }
 
-    // Takes the trampoline of a type, where the next one is its.
+    // Takes the trampoline of a type, where the next one belongs to it.
     fn take(&mut self, ty: ModuleInternedTypeIndex) -> Option<ModuleInternedTypeIndex>
         ensures taken { result ≡ taken_at (number_of ty) self.old }
         ensures left { self.new ≡ left_after (number_of ty) self.old }

@@ -27,8 +27,8 @@ fn short_word(ty: &WasmValType) -> Option<(&'static [u8; 8], usize)>
     }
 }
 
-// Writes value types before the first reference, a space before each. The answer is the place
-// behind them, and their number.
+// Writes value types before the first reference, a space before each. Returns the position behind
+// them, and their number.
 fn put_values(room: &mut [u8], used: usize, types: &[WasmValType]) -> (usize, usize)
     requires { used + 8 * length types.now ≤ length room.old }
     ensures written { take result.0 room.new ≡ take used room.old ++ spaced val_text (take result.1 types.now) }

@@ -30,7 +30,7 @@ pub fn worked_expressions()
         ≡ codes "i32.const 1; i64.const -2" }
 {}
 
-/// Names stand between quotes. A zero byte, a quote, a backslash and a byte past ASCII are a
+/// Names are between quotes. A zero byte, a quote, a backslash and a byte past ASCII are a
 /// backslash and two digits.
 pub fn worked_names()
     ensures plain { quoted_text (codes "memory") ≡ codes "\"memory\"" }

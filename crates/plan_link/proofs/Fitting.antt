@@ -39,7 +39,7 @@ live-few r l listed =
     let p = planned r l in
     omega (arith, fresh-few r l listed, counted-long (keep_groups r.groups p.fresh) p.listed.groups, length-both r.groups p.fresh)
 
--- a registry that has room is not full
+-- a registry that has capacity left is not full
 pub not-full : (r : Registry) (l : TypeList) → Listed l → HasRoom r (length l.types) → IsFull r l → ⊥
 not-full r l listed room (inl many) = absurd (omega (arith, many, fresh-few r l listed, room.types))
 not-full r l listed room (inr last) = absurd (omega (arith, last, room.key))

@@ -82,7 +82,8 @@ is-there f (x ∷ xs) i lt = ap (λ o. is_some (option_map f o)) (slice_get-get_
 text-there : (texts : List (List ℕ)) (atom : Atom) → HasText texts atom → IsSome (slice_get texts (atom_number atom))
 text-there texts atom lt = ap is_some (slice_get-get_or texts (atom_number atom) [] lt)
 
--- the entities of a record are those of a module; its imports and exports too, whose names are in its pool
+-- the entities of a record are those of a module; its imports and exports too, whose names are in
+-- its pool
 abbrev pub HasEntitiesOf : plain.Module → Module → Type 0
 HasEntitiesOf m r = record {
   types : HasTypesOf m r;

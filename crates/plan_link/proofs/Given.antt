@@ -18,7 +18,7 @@ use Rattle.plan_link.specs.Answers.{judged, answer_by, answer_to, import_answers
 abbrev Answer : Type 0
 Answer = Result ℕ LinkError
 
--- the same without the place of the import
+-- the same without the index of the import
 abbrev pub told : Answer → ImportAnswer
 told (Ok number) = answer.Given number
 told (Err (error.Mismatch i rule)) = answer.Mismatch rule
@@ -32,7 +32,7 @@ told-from : (k : ℕ) (ds wants : List Definition) → map told (map (linker.ans
 told-from k ds [] = refl
 told-from k ds (want ∷ wants) = λ i. told-at k want.1 (found ds want.0) i ∷ told-from (k + 1) ds wants i
 
--- the answer of a linker at a place tells the one that is given there
+-- the answer of a linker at an index gives the one that is given there
 given-at : (ds wants : List Definition) (i : ℕ) (r : Answer) → slice_get (linker.answers ds wants) i ≡ Some r
     → slice_get (import_answers ds wants) i ≡ Some (told r)
 given-at ds wants i r is =

@@ -8,7 +8,7 @@ use Rattle.type_registry.specs.Registry.{RegistryState, Module, registry_of}
 use Rattle.type_registry.specs.Standing.{Stands}
 use Rattle.plan_link.specs.Linkable.{HasCount}
 
--- a list that stands has as many types
+-- a list that the registry holds under a key has as many types
 pub stands-has : (registry : RegistryState) (key : ModuleKey) (l : TypeList) → Stands (registry_of registry) (key_number key) l
     → HasCount registry key (length l.types)
 stands-has registry key l st = rw (ap (option_map (λ (m : Module). length m.indices)) st.held ∙ ap Some st.count) refl

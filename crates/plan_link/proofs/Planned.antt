@@ -63,7 +63,7 @@ module _ (o : Options) (bytes : List ℕ) (plan : Plan) (is : IsPlanned o bytes 
   pub planned-types : length plan.types.types < 2 ^ 31
   planned-types = omega (arith, few-types bytes m is.read (runs kind), counted)
 
-  -- beside where mapped types were met the list is the interned one
+  -- except where mapped types were seen, the list is the interned one
   well-named : AreWellNamed → IsWellNamed held
   well-named well =
       let w = well (placed_groups m) (keeps-earlier m is.keeps) (plain.tags m) (runs kind) in

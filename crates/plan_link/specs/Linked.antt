@@ -25,7 +25,7 @@ pub record IsLinked (exporter : Plan) (as_module : List ℕ) (importer : Plan) (
   pub second : ModuleKey
   pub exporter_types : Stands (registry_of registry) (key_number first) exporter.types
   pub importer_types : Stands (registry_of registry) (key_number second) importer.types
-  -- so two types have one index exactly where they are equal by group and place
+  -- so two types have one index exactly where they are equal by group and position
   pub tells : TellsTypes (registry_of registry) (key_number first) exporter.types (key_number second) importer.types
   -- with these indices each import is answered by the exports alone
   pub answered : answers

@@ -1,4 +1,4 @@
--- Room for the types of one more module.
+-- Capacity for the types of one more module.
 use Rattle.std.specs.Prelude.{◌<◌, ◌≤◌, ◌+◌, ℕ, length}
 use Rattle.type_registry.specs.Registry.{Registry, live}
 

@@ -7,8 +7,8 @@ use import_match::Mismatch;
 pub enum ImportAnswer {
     /// The export of this number, counted from 0 in their order.
     Given(usize),
-    /// No export stands under its names.
+    /// No export has its names.
     Missing,
-    /// The export under its names breaks this rule, the first in the table.
+    /// The export with its names breaks this rule, the first in the table.
     Mismatch(Mismatch),
 }

@@ -52,7 +52,7 @@ pub(crate) fn answers_of(
     Ok(answers)
 }
 
-// The answer to the import at a place.
+// The answer to the import at an index.
 fn answer_at(
     linker: &Linker,
     registry: &TypeRegistry,
@@ -84,7 +84,7 @@ fn told_by(refusal: LinkError) -> Result<ImportAnswer, OutOfMemory>
     }
 }
 
-// The one refusal that can come where a module is held and nothing is defined yet.
+// The one refusal that is possible where a module is held and nothing is defined yet.
 fn memory(_refusal: LinkError) -> OutOfMemory
     requires { _refusal ≡ refused.OutOfMemory }
 {

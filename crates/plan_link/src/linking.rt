@@ -20,7 +20,7 @@ const MOST_TYPES: u32 = u32::MAX - 1;
 /// under the name `as_module`: an answer an import, in order, each by itself.
 ///
 /// # Errors
-/// Memory alone can end: a registry has room for the types of any two plans, and no two exports
+/// Only `OutOfMemory`: a registry has capacity for the types of any two plans, and no two exports
 /// have one name.
 pub fn link_plans(
     alloc: Global,

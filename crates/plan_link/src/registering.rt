@@ -1,4 +1,4 @@
-//! The types of one more module in a registry that has room for them.
+//! The types of one more module in a registry that has capacity for them.
 
 ghost use Rattle.std.specs.Prelude.{◌≡◌, ◌≤◌, ◌+◌, ℕ, length, IfOk, OnOk};
 ghost use Rattle.type_registry.specs.declared.error.RegistryError.{RegistryError};
@@ -14,7 +14,7 @@ use entity_map::OutOfMemory;
 use module_types::ModuleTypes;
 use type_registry::{ModuleKey, RegistryError, TypeRegistry};
 
-/// Holds a module of these types. As there is room, nothing but memory can lack.
+/// Holds a module of these types. As there is capacity, only memory can be lacking.
 pub(crate) fn register(
     registry: &mut TypeRegistry,
     types: &ModuleTypes,
@@ -33,7 +33,7 @@ pub(crate) fn register(
     }
 }
 
-// The one refusal that can come.
+// The one refusal that is possible.
 fn memory(_refusal: RegistryError) -> OutOfMemory
     requires { _refusal ≡ refused.OutOfMemory }
 {

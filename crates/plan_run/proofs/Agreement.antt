@@ -1,4 +1,4 @@
--- A plan that agrees with a module lays what the module's initialisers give.
+-- A run of a plan that agrees with a module gives what the module's initialisers give.
 use Rattle.std.proofs.Common.{◌≡◌, ℕ, List, length, map, Option, ap, ◌∙◌, arith}
 use Rattle.std.proofs.lemmas.List.{length-map}
 use Rattle.module_types.specs.TypeList.{TypeList}
@@ -20,7 +20,7 @@ use Rattle.plan_run.specs.Memories.{bytes_in}
 use Rattle.plan_run.specs.Laid.{imported_globals, imported_tables, data_phase}
 use Rattle.plan_run.specs.Agreement.{AgreementLaw}
 
--- what is laid of a phase is laid of one that is the same
+-- objects that hold what a phase leaves hold what a phase that is the same leaves
 pub lays-same : {A : Type 0} {one other : Phase A} {n : ℕ} {objects : List (List A)} {trapped : Option ℕ} → SamePhase one other → Lays other n objects trapped
     → Lays one n objects trapped
 lays-same same lays = grind arith

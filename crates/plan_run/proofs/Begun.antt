@@ -24,7 +24,7 @@ use Rattle.plan_run.proofs.Writing.{written-item, length-written}
 abbrev pub image_piece : ℕ → ℕ × List ℕ → Piece ℕ
 image_piece object image = record { object = object; offset = image.0; items = image.1 }
 
--- what an image leaves at a place
+-- what an image leaves at a position
 abbrev pub laid_over : Option (ℕ × List ℕ) → ℕ → ℕ → ℕ → ℕ
 laid_over None object place d = d
 laid_over (Some image) object place d = unwrap_or (item_at object place (image_piece object image)) d

@@ -96,7 +96,7 @@ module _ (place_of : Expression → ℕ) (plan : MemoryPlan) where
   none-left [] all = refl
   none-left (s ∷ ss) all = grind (arith, All-head (λ (x : PlannedSegment). IsStatic x.offset) s ss all, none-left ss (All-tail (λ (x : PlannedSegment). IsStatic x.offset) s ss all))
 
--- ---- what the memories hold, and lend
+-- ---- what the memories hold, and borrow
 
 module _ (t : ModuleTranslation) (f : Finished t) (w : Way) (place_of : Expression → ℕ) (imported memories : List Contents) (many : length imported ≡ t.module.num_imported_memories)
     (are : map seen memories ≡ map seen imported ++ begun w (memory_plan_of t) (page_size_of t) t.module.num_imported_memories (own_memories t)) where
@@ -144,7 +144,7 @@ module _ (t : ModuleTranslation) (f : Finished t) (w : Way) (place_of : Expressi
       abbrev before : Contents
       before = get_or memories i memory
 
-      -- with no image no page is lent, and with one the memory is what it was
+      -- with no image no page is borrowed, and with one the memory is what it was
       lends-by : (image : Option (ℕ × List ℕ)) → image_at i ≡ image → (page : ℕ) → lends memory page ≡ is_of_image (page_size_of t) image page
       lends-by None none page =
           on.lent i page before memory (began i memory at) at

@@ -1,4 +1,4 @@
--- Which pages are lent, as pieces are written.
+-- Which pages are borrowed, as pieces are written.
 use Rattle.std.proofs.Common.{◌≡◌, ℕ, zero, suc, ◌+◌, ◌-◌, ◌*◌, ◌/◌, ◌%◌, ◌<◌, ◌≤◌, Bool, true, false, ◌&&◌, List, [], ◌∷◌, ◌++◌, length, map, get_or, set, take, drop, replicate, Option, None, Some, ⊎_elim, refl, sym, ◌∙◌, ap, arith}
 use Rattle.std.specs.Prelude.{slice_get, if◌then◌else◌, nat_le, nat_lt}
 use Rattle.std.proofs.Math.ListN.{length-set}
@@ -80,7 +80,8 @@ module _ (memories : List Contents) (p : Piece ℕ) (memory new : Contents) (at 
 
 -- ---- pieces one by one
 
--- while pieces are written: those that are left leave lent what the whole phase does
+-- while pieces are written: after those that remain, the same pages are borrowed as after the
+-- complete phase
 pub record IsLending (phase : Phase ℕ) (rest : List (Piece ℕ)) (old new : List Contents) : Type 0 where
   pub count : length new ≡ length old
   pub sizes : (i : ℕ) (before after : Contents) → slice_get old i ≡ Some before → slice_get new i ≡ Some after → after.page ≡ before.page
@@ -165,7 +166,7 @@ count-drop zero xs = omega arith
 count-drop (suc n) [] = omega arith
 count-drop (suc n) (x ∷ xs) = omega (arith, count-drop n xs)
 
--- where no page is lent
+-- where no page is borrowed
 pub count-empty : (xs : List Bool) → ((k : ℕ) → get_or xs k false ≡ false) → count_lent xs ≡ 0
 count-empty [] none = refl
 count-empty (true ∷ xs) none = absurd (let e = none 0 in cc)
@@ -187,7 +188,7 @@ first-count page size (Some image) =
       count-drop behind zeros,
     )
 
--- of pages that are not lent, those from one on are
+-- of pages that are not borrowed, those from one on are not
 module _ (a b n : ℕ) (l : a + b ≤ n) where
   abbrev zeros : List Bool
   zeros = replicate n false

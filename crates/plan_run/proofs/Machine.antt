@@ -33,11 +33,11 @@ module _ (a : Action) (nodes : List Node) (stack args : List Value) (takes rest 
         ≡ option_map (λ v. values_in (terms_of nodes) (take rest stack) ++ v ∷ []) (a.makes (values_in (terms_of nodes) args))
     acts-on = grind (arith, length-map, acted-taken, take-map, drop-map)
 
-    -- the values are not what is wanted
+    -- the values are not what is needed
     pub acts-none : a.makes (values_in (terms_of nodes) args) ≡ None → acted a (values_in (terms_of nodes) stack) ≡ None
     acts-none none = acts-on ∙ ap (option_map (λ v. values_in (terms_of nodes) (take rest stack) ++ v ∷ [])) none
 
-    -- or one value stands for them
+    -- or one value replaces them
     pub acts-some : (new : List Node) (between after : List Value) (v : Value) → Extends nodes new → All (NamesBelow (length nodes)) stack → between ≡ take rest stack
         → after ≡ between ++ v ∷ [] → MeansOption new (Some v) (a.makes (values_in (terms_of nodes) args)) → Acts a nodes new stack after true
     acts-some new between after v extends below cut pushed made =
@@ -70,7 +70,7 @@ no-value step e none = ap (λ o. value_or_null (option_and_then only_value o)) n
 pub the-value : (step : Step) (e : List Operator) (stack : List plain.Value) → run step e [] ≡ Some stack → value_or_null (plain.evaluated step e) ≡ value_or_null (only_value stack)
 the-value step e stack some = ap (λ o. value_or_null (option_and_then only_value o)) some
 
--- what may be a value, by the values that it stands for
+-- what may be a value, by the values that it represents
 pub option-means : (nodes : List Node) (o : Option Value) (meant : Option plain.Value) → option_map (value_in (terms_of nodes)) o ≡ meant → IfSome o (NamesBelow (length nodes))
     → MeansOption nodes o meant
 option-means nodes None meant is below = sym is

@@ -1,4 +1,4 @@
--- A memory whose image is lent until it is written to.
+-- A memory whose image is borrowed until it is written to.
 use Rattle.std.proofs.Common.{◌≡◌, ℕ, ◌+◌, ◌*◌, ◌/◌, ◌<◌, ◌≤◌, Bool, true, false, ◌&&◌, List, [], ◌∷◌, length, get_or, replicate, Option, None, Some, ⊎_elim, refl, sym, ◌∙◌, ap, arith}
 use Rattle.std.specs.Prelude.{slice_get, unwrap_or, if◌then◌else◌, nat_le, nat_lt}
 use Rattle.std.specs.Option.{option_map}
@@ -71,7 +71,7 @@ module _ (t : ModuleTranslation) (types : TypeList) (imports : Imports) (laid : 
       ∙ ap (λ ps. Some (last_item 0 place (phase.base 0 place) (before_trap phase.sizes ps))) none
       ∙ ap Some (based place)
 
-  -- its page is lent
+  -- its page is borrowed
   one : count_lent memory.lent ≡ 1
   one =
       counts 0 memory at (omega (arith, has.imports))
@@ -88,7 +88,7 @@ module _ (t : ModuleTranslation) (types : TypeList) (imports : Imports) (laid : 
       ∙ ap (λ n. is_of_image n (image_in Map plan 0) k) size-is
       ∙ ap (λ (o : Option (ℕ × List ℕ)). is_of_image 4096 o k) is-image
 
-  -- and lent no more
+  -- and borrowed no more
   lent-is : after.lent ≡ not_lent 0 1 memory.lent
   lent-is = write.lent ∙ ap (λ n. not_lent (17 / n) (reached n 17 (4 ∷ [])) memory.lent) page-is
 

@@ -10,7 +10,7 @@ use Rattle.plan_run.specs.Lays.{Lays}
 use Rattle.plan_run.specs.Segments.{WritesPiece}
 use Rattle.plan_run.proofs.Writing.{IsWriting, next-written, next-traps}
 
--- ---- what is left of a list
+-- ---- what remains of a list
 
 left-count : {A B : Type 0} (f : A → B) (xs : List A) (i : ℕ) → i < length xs → length xs - i ≡ suc (length (map f (drop (i + 1) xs)))
 left-count f xs i l = omega (arith, length-map (drop (i + 1) xs) f, length-drop (i + 1) xs)
@@ -24,8 +24,8 @@ module _ {A X : Type 0} (f : X → List A) (xs : List X) (k : ℕ) (x : X) (at :
   pub writes-true : (new : X) → p.offset + length p.items ≤ length (f x) → f new ≡ written p.offset p.items (f x) → WritesPiece p (map f xs) (map f (set xs k new)) true
   writes-true new l is object found = grind (arith, the-object, map-set)
 
--- of some pieces the next one is written, and those behind it are left; or it does not fit, and the
--- trap is how many are left
+-- of some pieces the next one is written, and those behind it remain; or it does not fit, and the
+-- trap is how many remain
 module _ {A X : Type 0} {phase : Phase A} {old : List (List A)} {p : X} (f : X → Piece A) (xs : List X) (i : ℕ) (d : X) (l : i < length xs) (is : get_or xs i d ≡ p)
     (new : List (List A)) (w : IsWriting phase (map f (drop i xs)) old) (within : (f p).object < length old) where
   abbrev object : List A

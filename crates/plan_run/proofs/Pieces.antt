@@ -1,4 +1,4 @@
--- What is left to be written are the pieces of the phase.
+-- What remains to be written are the pieces of the phase.
 use Rattle.std.proofs.Common.{◌≡◌, ℕ, List, [], ◌∷◌, map, refl, arith}
 use Rattle.std.specs.List.{filter_map}
 use Rattle.wasm_spec.specs.Module.{Expression}

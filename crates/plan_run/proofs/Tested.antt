@@ -1,4 +1,4 @@
--- What a test of a translation tells.
+-- What a test of a translation shows.
 use Rattle.std.proofs.Common.{◌≡◌, ℕ, zero, suc, ◌<◌, ◌≤◌, List, [], ◌∷◌, length, map, get_or, Option, None, Some, refl, sym, ◌∙◌, ap, subst, arith}
 use Rattle.std.specs.Prelude.{slice_get, All, IfSome}
 use Rattle.std.specs.Global.{Vec}

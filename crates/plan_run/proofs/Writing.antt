@@ -28,7 +28,8 @@ module _ {A : Type 0} (at : ℕ) (items old : List A) (l : at + length items ≤
   pub written-behind : (k : ℕ) → slice_get (written at items old) (at + length items + k) ≡ slice_get old (at + length items + k)
   written-behind k = grind (arith, front, get-append-high, get-drop)
 
--- at each place of an object stands the item of the piece that is written to it, or what stood there
+-- at each position of an object is the item of the piece that is written to it, or what was there
+-- before
 pub written-item : {A : Type 0} (i place : ℕ) (p : Piece A) (old : List A) (d : A) → p.object ≡ i → p.offset + length p.items ≤ length old → slice_get old place ≡ Some d
     → slice_get (written p.offset p.items old) place ≡ Some (unwrap_or (item_at i place p) d)
 written-item i place p old d on l is =
@@ -40,8 +41,8 @@ written-item i place p old d on l is =
 
 -- ---- objects
 
--- while pieces are written: the objects hold items over which those that are left leave what the
--- whole phase leaves
+-- while pieces are written: the objects hold items over which those that remain leave what the
+-- complete phase leaves
 pub record IsWriting {A : Type 0} (phase : Phase A) (rest : List (Piece A)) (objects : List (List A)) : Type 0 where
   pub item : ℕ → ℕ → A
   pub hold : Hold phase.sizes item objects

@@ -1,4 +1,4 @@
--- What is laid of a plan that agrees with a module is what the module's initialisers give.
+-- A run of a plan that agrees with a module gives what the module's initialisers give.
 use Rattle.std.specs.Prelude.{◌≡◌, ℕ, length}
 use Rattle.wasm_spec.specs.Module.{Module, imported_of, table_import, imported_memories}
 use Rattle.rule_spec.specs.Lists.{lists_of_module}
@@ -28,7 +28,7 @@ pub record IsOfModule (m : Module) (t : ModuleTranslation) (imports : Imports) (
       (bytes_in laid.memories.items) laid.memory_trap
   pub tables : Lays (module_elements_phase (globals_of m (imported_globals imports)) (imported_tables imports) m) (length t.module.tables) (laid_tables laid) laid.table_trap
 
--- so many imports as the module has
+-- as many imports as the module has
 pub record AreCountedBy (m : Module) (imports : Imports) : Type 0 where
   pub globals : length imports.globals.items ≡ (lists_of_module m).imported_globals
   pub memories : length imports.memories.items ≡ length (imported_memories m)

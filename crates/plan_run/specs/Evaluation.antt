@@ -16,7 +16,7 @@ globals_of e = values_in (terms_of e.nodes.items) e.globals.items
 abbrev pub fields_of : Evaluator → ℕ → ℕ
 fields_of e = field_count_in e.translation.now e.types.now
 
--- the place that an offset names
+-- the position that an offset names
 abbrev pub place_of : Evaluator → Expression → ℕ
 place_of e = offset_over (globals_of e) (fields_of e)
 
@@ -25,7 +25,7 @@ pub record IsSound (e : Evaluator) : Type 0 where
   pub ordered : AreOrdered e.nodes.items
   pub globals : All (NamesBelow (length e.nodes.items)) e.globals.items
 
--- nodes are appended, and nothing else is changed: the globals stand for what they stood for
+-- nodes are appended, and nothing else is changed: the globals represent what they represented
 pub record Grows (old new : Evaluator) : Type 0 where
   pub extends : Extends old.nodes.items new.nodes.items
   pub sound : IsSound new

@@ -8,7 +8,7 @@ use Rattle.wasm_types.specs.Views.{struct_in}
 use Rattle.module_types.specs.TypeList.{TypeList}
 use Rattle.init_plan.specs.declared.translation.ModuleTranslation.{ModuleTranslation}
 
--- the place of a type among the interned ones
+-- the index of a type among the interned ones
 abbrev pub place_of : EngineOrModuleTypeIndex → Option ℕ
 place_of (name.Module index) = Some (number_of index)
 place_of _ = None

@@ -1,5 +1,5 @@
--- When a translation can be laid. Expressions need not be typed: one that has no value is null, or
--- the place 0.
+-- When a translation can be run. Expressions need not be typed: one that has no value is null, or
+-- the position 0.
 use Rattle.std.specs.Prelude.{◌≡◌, ◌⊎◌, ℕ, ◌-◌, ◌<◌, ◌≤◌, length, All, Some, slice_get}
 use Rattle.wasm_index.specs.Index.{number_of}
 use Rattle.wasm_types.specs.declared.memory.Memory.{Memory}
@@ -15,8 +15,8 @@ abbrev pub IsStatic : PlannedOffset → Type 0
 IsStatic (Expr e) = ⊥
 IsStatic (Static place) = Unit {0}
 
--- an image is of a defined memory, lies within its minimum size, and is whole pages; no segment is
--- then left to be written
+-- an image is of a defined memory, is within its minimum size, and is complete pages; no segment
+-- then remains to be written
 pub record ImageFits (t : ModuleTranslation) (i : ℕ) (image : ℕ × ℕ) : Type 0 where
   pub defined : t.module.num_imported_memories ≤ i
   pub within : (memory : Memory) → slice_get t.module.memories i ≡ Some memory

@@ -1,4 +1,4 @@
--- What is laid of a translation, over imports.
+-- What a run of a translation gives, over imports.
 use Rattle.std.specs.Prelude.{◌≡◌, ℕ, ◌≤◌, List, length, map, Option, Some, slice_get, All}
 use Rattle.module_types.specs.TypeList.{TypeList}
 use Rattle.replay_spec.specs.Values as plain
@@ -42,7 +42,7 @@ data_phase t types w imports =
 abbrev pub element_phase : ModuleTranslation → TypeList → Imports → Phase plain.Value
 element_phase t types imports = planned_elements_phase (globals_in t types imports) (field_count_in t types) (imported_tables imports) (plan_of_tables t)
 
--- ---- what is laid
+-- ---- what a run gives
 
 abbrev pub laid_globals : Laid → List plain.Value
 laid_globals laid = values_in (terms_of laid.nodes.items) laid.globals.items
@@ -67,19 +67,19 @@ pub record NamesNodes (laid : Laid) : Type 0 where
   pub globals : All (NamesBelow (length laid.nodes.items)) laid.globals.items
   pub tables : TablesBelow (length laid.nodes.items) laid.tables.items
 
--- a memory has pages of this size, and lends exactly those of an image
+-- a memory has pages of this size, and borrows exactly those of an image
 pub record LendsImage (size : ℕ) (image : Option (ℕ × List ℕ)) (memory : Contents) : Type 0 where
   pub page_size : memory.page ≡ size
   pub lent : (page : ℕ) → lends memory page ≡ is_of_image size image page
 
--- defined memories lend the images that they begin with; imported memories lend what they lent, but
--- for the pages that the phase is written to
+-- defined memories borrow the images that they begin with; imported memories borrow what they
+-- borrowed before, but for the pages that the phase is written to
 pub record PagesAreLent (t : ModuleTranslation) (w : Way) (phase : Phase ℕ) (imported memories : List Contents) : Type 0 where
   pub defined : (i : ℕ) (memory : Contents) → slice_get memories i ≡ Some memory → t.module.num_imported_memories ≤ i
       → LendsImage (page_size_of t) (image_in w (memory_plan_of t) i) memory
   pub imports : LendOn phase imported memories
 
--- how many pages each defined memory lends: those of the image that it begins with
+-- how many pages each defined memory borrows: those of the image that it begins with
 abbrev pub LendImages : ModuleTranslation → Way → List Contents → Type 0
 LendImages t w memories = (i : ℕ) (memory : Contents) → slice_get memories i ≡ Some memory → t.module.num_imported_memories ≤ i
     → count_lent memory.lent ≡ image_pages (page_size_of t) (image_in w (memory_plan_of t) i)

@@ -2,7 +2,8 @@
 use Rattle.std.specs.Prelude.{◌≡◌, ℕ, ◌<◌, List, length, Option, Some, slice_get}
 use Rattle.replay_spec.specs.Phases.{Phase, trap_of, content_of}
 
--- so many objects, of the sizes of the phase, hold at each place what it leaves there; and it traps there
+-- so many objects, of the sizes of the phase, hold at each position what it leaves there; and the
+-- trap is that of the phase
 pub record Lays {A : Type 0} (phase : Phase A) (wanted : ℕ) (objects : List (List A)) (trapped : Option ℕ) : Type 0 where
   pub count : length objects ≡ wanted
   pub sizes : (i : ℕ) (object : List A) → slice_get objects i ≡ Some object → length object ≡ phase.sizes i

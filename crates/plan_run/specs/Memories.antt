@@ -1,4 +1,4 @@
--- Memories as a plan begins them, and what is left to be written.
+-- Memories as a plan begins them, and what remains to be written.
 use Rattle.std.specs.Prelude.{◌≡◌, ℕ, ◌+◌, ◌*◌, ◌/◌, ◌%◌, ◌≤◌, Bool, false, nat_le, nat_lt, ◌&&◌, slice_index_or, List, [], ◌∷◌, length, map, replicate, Option, Some, None, slice_get, unwrap_or}
 use Rattle.std.specs.Option.{option_map}
 use Rattle.wasm_spec.specs.Module.{Expression}
@@ -22,12 +22,12 @@ plan_phase way.Copy place_of imported plan = phase_by_list place_of imported pla
 
 -- ---- images
 
--- the place and bytes of the image that a memory begins with
+-- the offset and bytes of the image that a memory begins with
 abbrev pub image_in : Way → MemoryPlan → ℕ → Option (ℕ × List ℕ)
 image_in way.Map plan memory = option_map (λ image. (image.0, runtime_bytes plan image.1)) (unwrap_or (slice_get plan.images memory) None)
 image_in way.Copy plan memory = None
 
--- an image is whole pages, and lies within so many bytes
+-- an image is complete pages, and is within so many bytes
 abbrev pub ImageIsWithin : ℕ → ℕ → Option (ℕ × List ℕ) → Type 0
 ImageIsWithin page size None = Unit {0}
 ImageIsWithin page size (Some image) = (image.0 % page ≡ 0) × (length image.1 % page ≡ 0) × (image.0 + length image.1 ≤ size)
@@ -41,7 +41,7 @@ abbrev pub image_pages : ℕ → Option (ℕ × List ℕ) → ℕ
 image_pages page None = 0
 image_pages page (Some image) = length image.1 / page
 
--- of the pages that hold so many bytes, those of an image are lent
+-- of the pages that hold so many bytes, those of an image are borrowed
 abbrev pub first_lent : ℕ → ℕ → Option (ℕ × List ℕ) → List Bool
 first_lent page size None = replicate (page_count page size) false
 first_lent page size (Some image) = as_lent (image.0 / page) (length image.1 / page) (replicate (page_count page size) false)
@@ -51,11 +51,11 @@ abbrev pub is_of_image : ℕ → Option (ℕ × List ℕ) → ℕ → Bool
 is_of_image size None page = false
 is_of_image size (Some image) page = nat_le image.0 (page * size) && nat_lt (page * size) (image.0 + length image.1)
 
--- whether a page of a memory is lent; one that it does not have is not
+-- whether a page of a memory is borrowed; one that the memory does not have is not
 abbrev pub lends : Contents → ℕ → Bool
 lends memory page = slice_index_or memory.lent page false
 
--- of a memory, its bytes, how many bytes a page has, and which of the pages are lent
+-- of a memory, its bytes, how many bytes a page has, and which of the pages are borrowed
 abbrev pub seen : Contents → List ℕ × ℕ × List Bool
 seen memory = (memory.bytes, memory.page, memory.lent)
 
@@ -70,7 +70,7 @@ abbrev pub ImagesAreWithin : Way → MemoryPlan → ℕ → ℕ → List Memory 
 ImagesAreWithin w plan page n [] = Unit {0}
 ImagesAreWithin w plan page n (m ∷ ms) = ImageIsWithin page (minimum_bytes m) (image_in w plan n) × ImagesAreWithin w plan page (n + 1) ms
 
--- ---- what is left to be written
+-- ---- what remains to be written
 
 -- where a segment is written: one that is an image already is not
 abbrev pub left_place : Way → (Expression → ℕ) → PlannedOffset → Option ℕ

@@ -11,7 +11,7 @@ pub record Extends (old new : List Node) : Type 0 where
   pub more : List Node
   pub is : new ≡ old ++ more
 
--- a value stands for a plain one, over these nodes
+-- a value represents a plain one, over these nodes
 pub record Means (nodes : List Node) (v : Value) (meant : plain.Value) : Type 0 where
   pub below : NamesBelow (length nodes) v
   pub is : value_in (terms_of nodes) v ≡ meant
@@ -21,12 +21,12 @@ pub record AllMean (nodes : List Node) (values : List Value) (meant : List plain
   pub below : All (NamesBelow (length nodes)) values
   pub are : values_in (terms_of nodes) values ≡ meant
 
--- there is a value where there is a plain one, and it stands for that
+-- there is a value where there is a plain one, and it represents that
 abbrev pub MeansOption : List Node → Option Value → Option plain.Value → Type 0
 MeansOption nodes None meant = meant ≡ None
 MeansOption nodes (Some v) meant = NamesBelow (length nodes) v × (meant ≡ Some (value_in (terms_of nodes) v))
 
--- an operator acts on a stack, or does not find the values that it wants
+-- an operator acts on a stack, or does not find the values that it needs
 abbrev pub Acts : Action → List Node → List Node → List Value → List Value → Bool → Type 0
 Acts a nodes grown stack after true = All (NamesBelow (length grown)) after × (acted a (values_in (terms_of nodes) stack) ≡ Some (values_in (terms_of grown) after))
 Acts a nodes grown stack after false = acted a (values_in (terms_of nodes) stack) ≡ None

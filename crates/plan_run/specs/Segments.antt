@@ -1,4 +1,4 @@
--- Segments that are left to be written.
+-- Segments that remain to be written.
 use Rattle.std.specs.Prelude.{◌≡◌, ℕ, ◌+◌, ◌/◌, ◌<◌, ◌≤◌, Bool, true, false, if◌then◌else◌, nat_le, nat_lt, ◌==◌, ◌&&◌, List, [], ◌∷◌, length, set, Option, Some, slice_get}
 use Rattle.std.specs.Option.{option_map}
 use Rattle.std.specs.List.{filter_map}
@@ -10,7 +10,7 @@ use Rattle.paged_memory.specs.Writing.{written}
 use Rattle.plan_run.specs.declared.laid.Way.{Way}
 use Rattle.plan_run.specs.Memories.{lends, left_place}
 
--- what is left to be written of a segment
+-- what remains to be written of a segment
 abbrev pub left_piece : Way → (Expression → ℕ) → MemoryPlan → PlannedSegment → Option (Piece ℕ)
 left_piece w place_of plan s = option_map (λ place. record { object = s.memory; offset = place; items = runtime_bytes plan s.index }) (left_place w place_of s.offset)
 
@@ -27,20 +27,20 @@ WritesPiece {A} p old new false = (object : List A) → slice_get old p.object �
 abbrev pub reaches : ℕ → ℕ → ℕ → Piece ℕ → Bool
 reaches size memory page p = p.object == memory && (nat_le (p.offset / size) page && nat_lt page (p.offset / size + reached size p.offset p.items))
 
--- whether a page is lent still, once pieces are written
+-- whether a page is still borrowed, once pieces are written
 abbrev pub still_lent : ℕ → ℕ → ℕ → Bool → List (Piece ℕ) → Bool
 still_lent size memory page lent [] = lent
 still_lent size memory page lent (p ∷ ps) = still_lent size memory page (if reaches size memory page p then false else lent) ps
 
--- memories to which a phase is written: each has pages of the size that it had, and lends those
--- that it lent, but for those that are written to
+-- memories to which a phase is written: each has pages of the size that it had, and borrows those
+-- that it borrowed, but for those that are written to
 pub record LendOn (phase : Phase ℕ) (old new : List Contents) : Type 0 where
   pub sizes : (i : ℕ) (before after : Contents) → slice_get old i ≡ Some before → slice_get new i ≡ Some after → after.page ≡ before.page
   pub lent : (i page : ℕ) (before after : Contents) → slice_get old i ≡ Some before → slice_get new i ≡ Some after
       → lends after page ≡ still_lent before.page i page (lends before page) (before_trap phase.sizes phase.pieces)
 
--- as many memories, each with pages of the size that it had, which lends those that it lent, but
--- for those that a piece is written to
+-- as many memories, each with pages of the size that it had, which borrows those that it borrowed,
+-- but for those that a piece is written to
 pub record LendBut (p : Piece ℕ) (old new : List Contents) : Type 0 where
   pub count : length new ≡ length old
   pub sizes : (i : ℕ) (before after : Contents) → slice_get old i ≡ Some before → slice_get new i ≡ Some after → after.page ≡ before.page

@@ -1,4 +1,5 @@
--- A worked example: an image that holds 1, 9, 3 from 16 on is lent until a byte is written over it.
+-- A worked example: an image that holds 1, 9, 3 from 16 on is borrowed until a byte is written over
+-- it.
 use Rattle.std.specs.Prelude.{◌≡◌, ℕ, ◌/◌, ◌<◌, List, [], ◌∷◌, length, Some, slice_get}
 use Rattle.module_types.specs.TypeList.{TypeList}
 use Rattle.replay_spec.specs.Plan.{runtime_bytes}
@@ -13,7 +14,7 @@ use Rattle.plan_run.specs.Finished.{Finished}
 use Rattle.plan_run.specs.Laid.{data_phase, MemoriesAreLaid, PagesAreLent, LendImages}
 
 -- the first memory is a defined one, and begins with an image of one page of 4096 bytes, in which
--- 1, 9, 3 stand from 16 on
+-- 1, 9, 3 begin at 16
 pub record HasOverlap (t : ModuleTranslation) (index : ℕ) : Type 0 where
   pub imports : t.module.num_imported_memories ≡ 0
   pub page : t.data_align ≡ Some 4096
@@ -29,8 +30,8 @@ pub record IsWritten (at : ℕ) (items : List ℕ) (old new : Contents) : Type 0
   pub page : new.page ≡ old.page
   pub lent : new.lent ≡ not_lent (at / old.page) (reached old.page at items) old.lent
 
--- the bytes are those of the image, whose page is lent; with a byte written over it no page is, and
--- the image is what it was
+-- the bytes are those of the image, whose page is borrowed; with a byte written over it no page is,
+-- and the image is what it was
 pub record OverlapIsSeen (t : ModuleTranslation) (index : ℕ) (memory after : Contents) : Type 0 where
   pub first : slice_get memory.bytes 16 ≡ Some 1
   pub second : slice_get memory.bytes 17 ≡ Some 9
@@ -40,7 +41,7 @@ pub record OverlapIsSeen (t : ModuleTranslation) (index : ℕ) (memory after : C
   pub lent_after : count_lent after.lent ≡ 0
   pub planned : slice_get (runtime_bytes (memory_plan_of t) index) 17 ≡ Some 9
 
--- so it is for all that is laid of such a plan, with images lent
+-- so it is for each run of such a plan, with images borrowed
 abbrev pub OverlapLaw : ModuleTranslation → TypeList → Imports → Laid → ℕ → Contents → Contents → Type 0
 OverlapLaw t types imports laid index memory after = Finished t → HasOverlap t index → MemoriesAreLaid t types Map imports laid
     → PagesAreLent t Map (data_phase t types Map imports) imports.memories.items laid.memories.items → LendImages t Map laid.memories.items

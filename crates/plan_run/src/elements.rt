@@ -24,7 +24,7 @@ use wasm_convert::ConstExpr;
 use wasm_index::FuncIndex;
 use wasm_module::TableSegmentElements;
 
-/// Cells that are to be written to a table from a place on.
+/// Cells that are to be written to a table from an offset on.
 #[derive(Drop)]
 pub(crate) struct ElementPiece {
     pub(crate) table: usize,
@@ -102,7 +102,7 @@ impl Evaluator<'_, '_, '_> {
     }
 }
 
-/// Writes a piece, where it fits, and tells whether it does.
+/// Writes a piece, where it fits, and returns whether it does.
 fn write_cells(tables: &mut Vec<Vec<Value>>, piece: &ElementPiece) -> bool
     requires { piece.now.table < length tables.old.items }
     ensures writes { (terms : List Term) → WritesPiece (element_piece terms piece.now) (cells_in terms tables.old.items) (cells_in terms tables.new.items) result }
@@ -119,7 +119,8 @@ fn write_cells(tables: &mut Vec<Vec<Value>>, piece: &ElementPiece) -> bool
     true
 }
 
-/// Writes pieces in order, up to the first that does not fit: its number, counted from the last.
+/// Writes pieces in order, up to the first that does not fit. Returns its number, counted from the
+/// last.
 pub(crate) fn write_elements(tables: &mut Vec<Vec<Value>>, pieces: &[ElementPiece]) -> Option<u64>
     requires { All (λ p. p.table < length tables.old.items) pieces.now }
     ensures writes { (terms : List Term) (phase : Phase plain.Value) → phase.pieces ≡ map (element_piece terms) pieces.now

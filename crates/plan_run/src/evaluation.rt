@@ -25,11 +25,11 @@ pub(crate) struct Evaluator<'t, 'd, 'a> {
     pub(crate) translation: &'t ModuleTranslation<'d>,
     pub(crate) types: &'a ModuleTypes,
     pub(crate) globals: Vec<Value>,
-    /// What values of nodes stand for, by their numbers.
+    /// What values of nodes represent, by their numbers.
     pub(crate) nodes: Vec<Node>,
 }
 
-/// The value that stands alone, and null where that is not so.
+/// The value, where there is exactly one; otherwise null.
 fn only(values: &[Value]) -> Value
     ensures means { (terms : List Term) → value_in terms result ≡ value_or_null (only_value (values_in terms values.now)) }
     ensures below { (k : ℕ) → All (NamesBelow k) values.now → NamesBelow k result }
@@ -40,7 +40,7 @@ fn only(values: &[Value]) -> Value
     }
 }
 
-/// The place that a value names, and 0 where it is no integer.
+/// The position that a value names, and 0 where it is no integer.
 fn place_of(value: Value) -> u64
     ensures { (terms : List Term) → result ≡ number_of (value_in terms value) }
 {
@@ -52,7 +52,7 @@ fn place_of(value: Value) -> u64
 }
 
 impl Evaluator<'_, '_, '_> {
-    /// What an operator makes of the values that it takes; none where they are not what it wants.
+    /// What an operator makes of the values that it takes; none where they are not what it needs.
     fn make(&mut self, op: ConstOp, args: &[Value]) -> Result<Option<Value>, OutOfMemory>
         requires sound { IsSound self.old }
         requires args { All (NamesBelow (length self.old.nodes.items)) args.now }
@@ -67,8 +67,8 @@ impl Evaluator<'_, '_, '_> {
         }
     }
 
-    /// One operator: puts what it makes in the place of the values that it takes. Tells whether it
-    /// finds the values that it wants.
+    /// Runs one operator: replaces the values that it takes by what it makes. Returns whether it
+    /// finds the values that it needs.
     fn step(&mut self, stack: &mut Vec<Value>, op: ConstOp) -> Result<bool, OutOfMemory>
         requires sound { IsSound self.old }
         requires stack { All (NamesBelow (length self.old.nodes.items)) stack.old.items }
@@ -110,7 +110,7 @@ impl Evaluator<'_, '_, '_> {
         Ok(only(stack.as_slice()))
     }
 
-    /// The place that an offset names.
+    /// The position that an offset names.
     pub(crate) fn offset_of(&mut self, offset: &ConstExpr) -> Result<u64, OutOfMemory>
         requires sound { IsSound self.old }
         ensures grows { OnOk result (Grows self.old self.new) }

@@ -1,4 +1,4 @@
-//! Whether a translation can be laid.
+//! Whether a translation can be run.
 
 ghost use Rattle.std.specs.Prelude.{◌≡◌, ◌↔◌, ◌+◌, ◌<◌, ◌≤◌, List, Some, length, map, slice_get, All, IsTrue, IfSome};
 ghost use Rattle.wasm_index.specs.Index.{number_of};
@@ -89,7 +89,7 @@ fn are_images(segments: &[(MemoryIndex, MemorySegmentOffset, RuntimeDataIndex)])
     segments.iter().all(|segment| matches!(segment.1, MemorySegmentOffset::Static(_)))
 }
 
-/// Whether an image is whole pages within a memory's minimum size.
+/// Whether an image is complete pages within a memory's minimum size.
 fn is_image_of(memory: &Memory, page: u64, start: u64, bytes: &[u8]) -> bool
     requires log2 { HasFormatPages memory.now }
     requires page { 0 < page }
@@ -118,7 +118,8 @@ fn fits_memory(translation: &ModuleTranslation<'_>, memory: usize, start: u64, b
     is_image_of(&memories[memory], page_size(translation), start, bytes)
 }
 
-/// Whether an image may stand: it is of a defined memory and fits it, and no segment is left to be written.
+/// Whether an image is allowed: it is of a defined memory and fits it, and no segment remains to be
+/// written.
 fn image_fits(
     translation: &ModuleTranslation<'_>,
     segments: &[(MemoryIndex, MemorySegmentOffset, RuntimeDataIndex)],
@@ -157,7 +158,7 @@ fn is_none_or_fits(
     }
 }
 
-/// Whether all images may stand.
+/// Whether all images are allowed.
 fn images_fit(
     translation: &ModuleTranslation<'_>,
     segments: &[(MemoryIndex, MemorySegmentOffset, RuntimeDataIndex)],
@@ -237,7 +238,7 @@ fn tables_are_finished(translation: &ModuleTranslation<'_>) -> bool
     elements_are_within(&translation.table_initialization.segments, tables.len())
 }
 
-/// Whether a translation can be laid: exactly where the condition `Finished` of `lay` holds.
+/// Whether a translation can be run: exactly where the condition `Finished` of `lay` holds.
 pub fn is_finished(translation: &ModuleTranslation<'_>) -> bool
     ensures { IsTrue result ↔ Finished translation.now }
 {

@@ -1,4 +1,4 @@
-//! What is laid of a plan.
+//! What a run of a plan gives.
 
 ghost use Rattle.std.specs.Prelude.{◌≡◌};
 
@@ -24,7 +24,7 @@ pub struct Laid<'t> {
     pub memories: Vec<PagedMemory<'t>>,
     /// The cells of each table.
     pub tables: Vec<Vec<Value>>,
-    /// What values of nodes stand for, by their numbers.
+    /// What values of nodes represent, by their numbers.
     pub nodes: Vec<Node>,
     /// The first data segment that does not fit, counted from the last of those that are to be
     /// written, which is 1.
@@ -36,13 +36,13 @@ pub struct Laid<'t> {
 /// How memories get their images.
 #[derive(Clone, Copy)]
 pub enum Way {
-    /// The pages of an image are lent by the translation.
+    /// The pages of an image are borrowed from the translation.
     Map,
     /// Every byte is written.
     Copy,
 }
 
-/// Why a plan is not laid.
+/// Why a plan is not run.
 #[derive(Clone, Copy, Debug, PartialEq, Eq, Error)]
 pub enum LayError {
     /// The defined memories or tables are larger than they may be.

@@ -7,7 +7,7 @@ ghost use Rattle.module_types.specs.TypeList.{TypeList};
 ghost use Rattle.init_plan.specs.declared.translation.ModuleTranslation.{ModuleTranslation};
 ghost use Rattle.plan_run.specs.Agreement.{AgreementLaw};
 
-/// What is laid of a plan that agrees with a module is what the module's initialisers give.
+/// A run of a plan that agrees with a module gives what the module's initialisers give.
 pub fn agreement_law()
     ensures { (t : ModuleTranslation) (types : TypeList) (w : Way) (imports : Imports) (laid : Laid) → AgreementLaw t types w imports laid }
 {}

@@ -35,7 +35,7 @@ pub(crate) fn bytes_of<'t>(
     }
 }
 
-/// The image of a memory in the map, with its place.
+/// The image of a memory in the map, with its offset.
 fn mapped_image<'t>(
     translation: &'t ModuleTranslation<'_>,
     memory: usize,
@@ -55,7 +55,7 @@ fn mapped_image<'t>(
     }
 }
 
-/// The image that a memory begins with, with its place.
+/// The image that a memory begins with, with its offset.
 fn image_of<'t>(
     translation: &'t ModuleTranslation<'_>,
     way: Way,

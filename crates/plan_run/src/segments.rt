@@ -20,7 +20,7 @@ use entity_map::{EntityRef, OutOfMemory};
 use init_plan::{MemoryInit, MemorySegmentOffset};
 use paged_memory::PagedMemory;
 
-/// Bytes that are to be written to a memory from a place on.
+/// Bytes that are to be written to a memory from an offset on.
 #[derive(Drop)]
 pub(crate) struct DataPiece<'t> {
     pub(crate) memory: usize,
@@ -28,7 +28,7 @@ pub(crate) struct DataPiece<'t> {
     pub(crate) bytes: &'t [u8],
 }
 
-/// Appends a piece, where there is a place for it.
+/// Appends a piece, where there is an offset for it.
 fn push_piece<'t>(
     pieces: &mut Vec<DataPiece<'t>>,
     memory: usize,
@@ -71,7 +71,7 @@ impl<'t> Evaluator<'t, '_, '_> {
         }
     }
 
-    /// What is left to be written of the data segments, in order.
+    /// What remains to be written of the data segments, in order.
     pub(crate) fn pieces_left(&mut self, way: Way) -> Result<Vec<DataPiece<'t>>, OutOfMemory>
         requires sound { IsSound self.old }
         requires processed { IsProcessed self.old.translation.now.memory_init }
@@ -97,7 +97,7 @@ impl<'t> Evaluator<'t, '_, '_> {
     }
 }
 
-/// Whether so many items from a place on lie within a size.
+/// Whether so many items from an offset on are within a size.
 pub(crate) fn is_within(size: u64, place: u64, count: u64) -> bool
     ensures { IsTrue result ↔ (place + count ≤ size) }
 {
@@ -107,7 +107,7 @@ pub(crate) fn is_within(size: u64, place: u64, count: u64) -> bool
     count <= size - place
 }
 
-/// Writes a piece, where it fits, and tells whether it does.
+/// Writes a piece, where it fits, and returns whether it does.
 fn write_piece(
     memories: &mut Vec<PagedMemory<'_>>,
     piece: &DataPiece<'_>,
@@ -124,7 +124,8 @@ fn write_piece(
     Ok(true)
 }
 
-/// Writes pieces in order, up to the first that does not fit: its number, counted from the last.
+/// Writes pieces in order, up to the first that does not fit. Returns its number, counted from the
+/// last.
 pub(crate) fn write_pieces(
     memories: &mut Vec<PagedMemory<'_>>,
     pieces: &[DataPiece<'_>],

@@ -13,7 +13,8 @@ use crate::value::{Value, from_constant, to_constant};
 use entity_map::EntityRef;
 use wasm_convert::ConstOp;
 
-/// What a sum, a difference or a product makes of two values; none of another operator or of other values.
+/// What a sum, a difference or a product makes of two values; none of another operator or of other
+/// values.
 fn joined(op: &ConstOp, first: Value, second: Value) -> Option<Value>
     ensures means { (terms : List Term) → option_map (value_in terms) result
         ≡ plain_result op.now (value_in terms first ∷ value_in terms second ∷ []) }

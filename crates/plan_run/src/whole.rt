@@ -1,4 +1,4 @@
-//! Lays a plan.
+//! Runs a plan.
 
 ghost use Rattle.std.specs.Prelude.{◌≡◌, ◌↔◌, ◌⊎◌, ◌++◌, ◌≤◌, ◌<◌, ◌^◌, length, map, All, IfOk, OnOk};
 ghost use Rattle.std.specs.declared.result.Result.TheVariants.{Err};
@@ -73,7 +73,7 @@ impl<'t> Evaluator<'t, '_, '_> {
     }
 }
 
-/// Lays a plan whose memories and tables are not too large.
+/// Runs a plan whose memories and tables are not too large.
 fn lay_all<'t>(
     alloc: Global,
     translation: &'t ModuleTranslation<'_>,
@@ -110,13 +110,15 @@ fn lay_all<'t>(
     })
 }
 
-/// Lays the plan of a translated module over imports: the globals, then the memories with the data
+/// Runs the plan of a translated module over imports: the globals, then the memories with the data
 /// phase and the tables with the element phase, each up to its trap (core specification, 4.7,
-/// instantiation). `way` says whether images of memories are lent by the translation or written.
+/// instantiation). `way` says whether images of memories are borrowed from the translation or
+/// written.
 ///
 /// # Errors
 /// `TooLarge` exactly where the defined memories pass 268435456 bytes or 1048576 pages together, or
-/// the defined tables 4194304 cells, each by its minimum; nothing is allocated before. `OutOfMemory`.
+/// the defined tables 4194304 cells, each by its minimum; nothing is allocated before.
+/// `OutOfMemory`.
 pub fn lay<'t>(
     alloc: Global,
     translation: &'t ModuleTranslation<'_>,

@@ -8,8 +8,8 @@ ghost use Rattle.plan_run.specs.declared.laid.Imports.{Imports};
 ghost use Rattle.plan_run.specs.declared.laid.Laid.{Laid};
 ghost use Rattle.plan_run.specs.Worked.{OverlapLaw};
 
-/// A memory whose image holds 1, 9, 3 from 16 on holds them too, and lends one page. Once 4 is
-/// written at 17 it lends none, and the image still has 9 there.
+/// A memory whose image holds 1, 9, 3 from 16 on holds them too, and borrows one page. Once 4 is
+/// written at 17 it borrows none, and the image still has 9 there.
 pub fn lent_image_is_written_over()
     ensures { (t : ModuleTranslation) (types : TypeList) (imports : Imports) (laid : Laid) (index : ℕ) (memory after : Contents) → OverlapLaw t types imports laid index memory after }
 {}

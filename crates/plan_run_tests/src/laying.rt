@@ -1,4 +1,4 @@
-//! A module, from its bytes to what is laid of it.
+//! A module, from its bytes to what a run of its plan gives.
 
 ghost use Rattle.std.specs.Prelude.{◌≡◌, ◌↔◌, length, All, IsTrue};
 ghost use Rattle.plan_run.specs.Finished.{Finished};
@@ -19,7 +19,7 @@ use wasm_types::Tunables;
 
 const HEADER: [u8; 8] = [0x00, 0x61, 0x73, 0x6D, 0x01, 0x00, 0x00, 0x00];
 
-/// What an imported memory lends.
+/// What an imported memory borrows.
 static LENT: [u8; 16] = [7, 7, 7, 7, 7, 7, 7, 7, 7, 7, 7, 7, 7, 7, 7, 7];
 
 /// What is imported of a row.
@@ -65,7 +65,7 @@ fn are_plain_tables(tables: &[Vec<Value>]) -> bool
     tables.iter().all(|table| are_plain(table.as_slice()))
 }
 
-/// Whether the imports are as many as the module wants, and name no node.
+/// Whether the imports are as many as the module needs, and name no node.
 fn can_be_imported(translation: &ModuleTranslation<'_>, imports: &Imports<'_>) -> bool
     ensures globals { IsTrue result → length imports.now.globals.items ≡ translation.now.module.num_imported_globals }
     ensures memories { IsTrue result → length imports.now.memories.items ≡ translation.now.module.num_imported_memories }
@@ -109,7 +109,7 @@ fn cell_in(tables: &[Vec<Value>], place: (usize, usize)) -> Option<Value> {
     }
 }
 
-/// What a node took at a place.
+/// What a node took at an index.
 fn taken_by(laid: &Laid<'_>, node: usize, place: usize) -> Option<Value> {
     match laid.nodes.get(node) {
         Some(node) => node.args.get(place).copied(),
@@ -125,7 +125,7 @@ fn planned_byte(translation: &ModuleTranslation<'_>, place: u64) -> Option<u8> {
     }
 }
 
-/// What is seen at the places of a row.
+/// What is seen at the positions of a row.
 fn picture_of(row: &Row, translation: &ModuleTranslation<'_>, laid: &Laid<'_>) -> Picture {
     let globals = laid.globals.as_slice();
     let memories = laid.memories.as_slice();
@@ -149,7 +149,7 @@ fn picture_of(row: &Row, translation: &ModuleTranslation<'_>, laid: &Laid<'_>) -
     }
 }
 
-/// Writes a byte to the last memory, if it has the place.
+/// Writes a byte to the last memory, if it has the position.
 fn write_last(
     memories: &mut [PagedMemory<'_>],
     written: Option<(u64, u8)>,
@@ -166,7 +166,7 @@ fn write_last(
     memory.write(place, &[byte])
 }
 
-/// What is seen of what is laid, which is dropped here.
+/// What is seen of the outcome of a run, which is dropped here.
 fn looked(
     row: &Row,
     translation: &ModuleTranslation<'_>,
@@ -179,7 +179,7 @@ fn looked(
     Ok(picture)
 }
 
-/// What is seen of a plan that is laid; none where it is too large.
+/// What is seen of a plan that is run; none where it is too large.
 fn laid_of(
     alloc: Global,
     row: &Row,
@@ -188,7 +188,7 @@ fn laid_of(
 ) -> Result<Option<Picture>, Fail>
     requires { Finished plan.now.translation }
 {
-    // The first is so of each plan, and is asked here to be asked once.
+    // The first holds of each plan, and is checked here so that it is checked once.
     if !is_finished(&plan.translation) || !can_be_imported(&plan.translation, &imports) {
         drop(imports);
         return Err("it cannot be laid".into());
@@ -202,7 +202,7 @@ fn laid_of(
 
 /// What is seen of a row.
 pub(crate) fn picture(alloc: Global, row: &Row) -> Result<Option<Picture>, Fail> {
-    // Each plan can be laid; it does nothing when it is run.
+    // Each plan can be run; this does nothing when it is run.
     translated_is_finished();
     let imports = given(alloc, row)?;
     let tunables = Tunables {

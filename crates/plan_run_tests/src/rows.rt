@@ -1,4 +1,4 @@
-//! What is laid of small modules.
+//! What runs of small modules give.
 
 ghost use Rattle.std.specs.Prelude.{◌<◌};
 
@@ -11,7 +11,7 @@ use std::process::Abort;
 use std::test::Fail;
 use wasm_index::FuncIndex;
 
-/// A row is seen so.
+/// Runs a row, and expects what is seen of it.
 fn expect(rt: &impl Abort, alloc: Global, row: Row, want: Picture) -> Result<(), Fail> {
     let seen = picture(alloc, &row)?;
     assert_eq!(rt; seen, Some(want));
@@ -62,8 +62,8 @@ fn an_image_is_lent_or_copied(rt: HostRuntime) -> Result<(), Fail> {
 }
 
 /// Two memories, of which the first is imported: 10, 11, 12, 13 are written to it from 14 on,
-/// across the second of its lent pages and one that is zero. 5, 6 are written to the other from 16
-/// on.
+/// across the second of its borrowed pages and one that is zero. 5, 6 are written to the other from
+/// 16 on.
 const TWO_MEMORIES: Row = Row {
     sections: &[
         0x02, 0x08, 0x01, 0x01, 0x6D, 0x01, 0x61, 0x02, 0x00, 0x00, 0x05, 0x03, 0x01, 0x00, 0x01,
@@ -76,7 +76,8 @@ const TWO_MEMORIES: Row = Row {
     ..ROW
 };
 
-/// One memory, and three segments that are kept: 1, 2, 3 at 16; 9, 9 at 65535, which does not fit; 4 at 20.
+/// One memory, and three segments that are kept: 1, 2, 3 at 16; 9, 9 at 65535, which does not fit;
+/// 4 at 20.
 const TRAP: Row = Row {
     sections: &[
         0x05, 0x03, 0x01, 0x00, 0x01, 0x0B, 0x18, 0x03, 0x00, 0x41, 0x10, 0x0B, 0x03, 0x01, 0x02,
@@ -87,7 +88,8 @@ const TRAP: Row = Row {
     ..ROW
 };
 
-/// The segments of `OVERLAP`, and an empty one at an offset of -1, which is 4294967295 and does not fit.
+/// The segments of `OVERLAP`, and an empty one at an offset of -1, which is 4294967295 and does not
+/// fit.
 const LAST_TRAP: Row = Row {
     sections: &[
         0x05, 0x03, 0x01, 0x00, 0x01, 0x0B, 0x14, 0x03, 0x00, 0x41, 0x10, 0x0B, 0x03, 0x01, 0x02,
@@ -139,7 +141,8 @@ fn number(number: u32) -> Option<Value> {
     Some(Value::I32(number))
 }
 
-/// A table of four cells, and three segments: functions 5, 6 at 1; 7, 8 at 3, which do not fit; 4 at 0.
+/// A table of four cells, and three segments: functions 5, 6 at 1; 7, 8 at 3, which do not fit; 4
+/// at 0.
 const TABLE: Row = Row {
     sections: &[
         0x01, 0x04, 0x01, 0x60, 0x00, 0x00, 0x03, 0x0A, 0x09, 0x00, 0x00, 0x00, 0x00, 0x00, 0x00,

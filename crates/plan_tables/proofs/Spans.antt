@@ -18,14 +18,14 @@ spans_append len f same n (x ∷ xs) ys =
     let here : length (f x) ≡ len x = same x in
     grind (arith, common_steps)
 
--- the items of what is left: those of the next, and those behind it
+-- the items of what remains: those of the next, and those behind it
 pub items_next : {X H : Type 0} (items : H → List X) (hs : List H) (i : ℕ) (d : H) → i < length hs
     → flat_map items (drop i hs) ≡ items (get_or hs i d) ++ flat_map items (drop (i + 1) hs)
 items_next items hs i d inside =
     let next : drop i hs ≡ get_or hs i d ∷ drop (i + 1) hs = rw add-one (drop-cons hs i d inside) in
     rw next refl
 
--- parts so far and those that are left, after the parts of one more
+-- parts so far and those that remain, after the parts of one more
 pub parts_step : {X Y H : Type 0} (len : X → ℕ) (f : X → List Y) (same : (x : X) → length (f x) ≡ len x) (items : H → List X)
     (hs : List H) (i : ℕ) (d : H) (parts new : List Span) (ys more : List Y) (whole : List Span)
     → i < length hs
@@ -43,7 +43,7 @@ parts_step len f same items hs i d parts new ys more whole inside is_new is_more
     = rw split at opened in
     rw (is_new, is_more) (simp (append_assoc, length-append) joined)
 
--- what was made of the items so far and what is left, after the items of one more
+-- what was made of the items so far and what remains, after the items of one more
 pub made_step : {X Y H : Type 0} (f : X → List Y) (items : H → List X) (hs : List H) (i : ℕ) (d : H) (ys more whole : List Y)
     → i < length hs
     → more ≡ ys ++ flat_map f (items (get_or hs i d))

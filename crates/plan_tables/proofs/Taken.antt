@@ -1,4 +1,4 @@
--- Bytes that are taken from one list into another.
+-- Bytes that are moved from one list into another.
 use Rattle.std.proofs.Common.{◌≡◌, ℕ, ◌+◌, ◌<◌, List, ◌∷◌, [], ◌++◌, length, map, take, drop, get_or, append_assoc, arith, ap, ◌∙◌}
 use Rattle.std.proofs.Math.ListN.{set}
 use Rattle.std.proofs.Math.Numerals.{add-one}
@@ -8,7 +8,7 @@ use Rattle.init_plan.specs.declared.translation.RuntimeBytes.{RuntimeBytes}
 use Rattle.plan_tables.specs.declared.record.RuntimeRow.{RuntimeRow}
 use Rattle.plan_tables.specs.Memories.{runtime_told, runtime_row}
 
--- the rows so far and what is left, after one more
+-- the rows so far and what remains, after one more
 pub taken_step : (rows : List RuntimeRow) (x : RuntimeRow) (planned : List RuntimeBytes) (y d : RuntimeBytes) (i : ℕ) (whole : List (ℕ × List ℕ))
     → i < length rows → i < length planned → runtime_told x ≡ runtime_row (get_or planned i d)
     → map runtime_told (take i rows) ++ map runtime_row (drop i planned) ≡ whole

@@ -73,7 +73,7 @@ locals_row run = record { count = run.0; value = read_row run.1 }
 abbrev pub body_told : BodyRow → List ℕ × Span
 body_told row = (row.code.now, row.locals)
 
--- bodies whose locals stand behind n others
+-- bodies whose locals are behind n others
 abbrev pub body_rows : ℕ → List FunctionBodyData → List (List ℕ × Span)
 body_rows n [] = []
 body_rows n (b ∷ bs) = (b.body.rest.now, record { begin = n; len = length b.body.locals.items }) ∷ body_rows (n + length b.body.locals.items) bs

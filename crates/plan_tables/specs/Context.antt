@@ -37,6 +37,7 @@ module _ {P : Type 0} {bound : Ghosts P} (offsets : VMOffsets P bound) where
     pub func_refs : BeginsAt (codes "module functions") r.func_refs
     pub runtime_data_bases : BeginsAt (codes "runtime data base pointers") r.runtime_data_bases
     pub runtime_data_lengths : BeginsAt (codes "runtime data lengths") r.runtime_data_lengths
-    -- the reference to the startup function, where there is one; else the greatest number of 32 bits
+    -- the reference to the startup function, where there is one; else the greatest number of 32
+    -- bits
     pub startup_func_ref : IsTrue (fields_of offsets).has_startup_func → BeginsAt (codes "startup funcref") r.startup_func_ref
     pub no_startup : IsFalse (fields_of offsets).has_startup_func → r.startup_func_ref ≡ 2 ^ 32 - 1

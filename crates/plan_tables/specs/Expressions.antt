@@ -13,7 +13,7 @@ use Rattle.plan_tables.specs.Operators.{operator_row}
 use Rattle.plan_tables.specs.Segments.{planned_of}
 use Rattle.plan_tables.specs.Spans.{spans_from}
 
--- the operators of a place that is an expression
+-- the operators of an offset that is an expression
 abbrev pub offset_operators : MemorySegmentOffset → List ConstOp
 offset_operators (offset.Expr e) = e
 offset_operators (offset.Static place) = []

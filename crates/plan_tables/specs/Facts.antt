@@ -1,4 +1,4 @@
--- What a record tells by one number each.
+-- What a record gives as one number each.
 use Rattle.std.specs.Prelude.{ℕ, ◌^◌, ◌-◌, length, Option, Some, None, unwrap_or}
 use Rattle.wasm_index.specs.declared.index.Index.{Index}
 use Rattle.wasm_index.specs.declared.spaces.FuncSpace.{FuncSpace}

@@ -37,7 +37,7 @@ abbrev pub branch_hint_rows : Index FuncSpace → Option (List BranchHint) → L
 branch_hint_rows function None = []
 branch_hint_rows function (Some hints) = map (branch_hint_row function) hints
 
--- an element segment that is passive, and its number among those
+-- an element segment that is passive, and its index among those
 abbrev pub passive_segment_row : Index ElemSpace → Option (Index PassiveElemSpace) → List PassiveSegmentRow
 passive_segment_row segment None = []
 passive_segment_row segment (Some index) = record { segment = number_of segment; passive = number_of index } ∷ []

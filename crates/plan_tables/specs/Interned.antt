@@ -75,7 +75,7 @@ type_row t fields = record {
   results = result_count t.composite_type.inner;
 }
 
--- types whose fields stand end to end behind n others
+-- types whose fields are end to end behind n others
 abbrev pub type_rows : ℕ → List WasmSubType → List TypeRow
 type_rows n [] = []
 type_rows n (t ∷ ts) = let len = length (fields_of t.composite_type.inner) in

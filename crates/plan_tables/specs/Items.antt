@@ -25,7 +25,7 @@ abbrev pub expressions_in : TableSegmentElements → List (List ConstOp)
 expressions_in (Functions functions) = []
 expressions_in (Expressions ty expressions) = expressions.items
 
--- the rows of segments whose functions stand behind f others, and whose expressions behind e others
+-- the rows of segments whose functions are behind f others, and whose expressions behind e others
 abbrev pub items_rows : ℕ → ℕ → List TableSegmentElements → List ItemsRow
 items_rows f e [] = []
 items_rows f e (x ∷ xs) = record {
@@ -41,7 +41,7 @@ pub record TellsElementItems {X : Type 0} (elements : X → TableSegmentElements
   pub expressions : TellsExpressions (λ e. e) (flat_map (λ x. expressions_in (elements x)) xs) r.expressions
 
 pub record TellsItems (t : ModuleTranslation) (r : ItemsRecord) : Type 0 where
-  -- of the segments that are left to be written, in order
+  -- of the segments that remain to be written, in order
   pub kept : TellsElementItems (λ s. s.elements) t.table_initialization.segments.items r.kept
   -- of the passive segments, by their numbers
   pub passive : TellsElementItems (λ x. x) t.passive_elements r.passive

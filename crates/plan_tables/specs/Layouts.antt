@@ -46,7 +46,7 @@ abbrev pub fields_of : GcLayout → List LayoutFieldRow
 fields_of (layout.Array a) = []
 fields_of (layout.Struct s) = map field_row s.value.fields
 
--- a layout whose fields stand behind n others
+-- a layout whose fields are behind n others
 abbrev pub layout_row : ℕ → TypeIndex → GcLayout → LayoutRow
 layout_row n ty (layout.Array a) = array_row ty n a
 layout_row n ty (layout.Struct s) = struct_row ty (record { begin = n; len = length s.value.fields }) s.value

@@ -51,6 +51,6 @@ pub record TellsMemories (t : ModuleTranslation) (r : MemoriesRecord) : Type 0 w
   pub ranges : r.runtime_ranges.now ≡ map data_range t.module.runtime_data
   -- the images, by the runtime data that hold them
   pub images : r.images.now ≡ image_rows t.module.memory_initialization
-  -- what is left to be written, in order
+  -- what remains to be written, in order
   pub segments : r.segments.now ≡ map segment_row (planned_of t.memory_init)
   pub passive : r.passive.now ≡ flat_map (λ p. passive_row p.0 p.1) (keyed index_of t.runtime_data_map.items)

@@ -36,7 +36,7 @@ module _ (pool : List (List ℕ)) where
   abbrev pub import_names : Initializer → List ℕ
   import_names (Import from name e) = name_of from ++ name_of name
 
-  -- an import whose names stand behind n bytes of other names
+  -- an import whose names are behind n bytes of other names
   abbrev pub import_row : ℕ → Initializer → ImportRow
   import_row n (Import from name e) = record {
     kind = entity_kind e;

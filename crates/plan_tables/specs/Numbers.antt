@@ -1,4 +1,4 @@
--- Small numbers for what has none.
+-- Small numbers for values that are not numbers.
 use Rattle.std.specs.Prelude.{ℕ, Bool, if◌then◌else◌}
 use Rattle.wasm_types.specs.declared.limits.IndexType.{IndexType}
 use Rattle.wasm_types.specs.declared.limits.IndexType.TheVariants.{I32, I64}

@@ -38,7 +38,7 @@ abbrev pub list_operand : Operands → ℕ
 list_operand (operand.Heap h) = index_list (heap_index h)
 list_operand _ = 0
 
--- an operator by its place in the enumeration, and its operands
+-- an operator by its position in the enumeration, and its operands
 abbrev pub operator_row : ConstOp → OperatorRow
 operator_row op = record {
   code = place_of_operator op;

@@ -20,7 +20,7 @@ use Rattle.plan_tables.specs.Structs.{TellsStructs}
 use Rattle.plan_tables.specs.Tables.{TellsTables}
 use Rattle.plan_tables.specs.Types.{TellsTypes}
 
--- the record tells the plan
+-- the record represents the plan
 pub record Tells (plan : Plan) (r : PlanRecord) : Type 0 where
   pub planned : (r.refusal ≡ 0) × (r.refusal_detail ≡ 0) × (r.refusal_line.now ≡ [])
   pub entities : r.entities ≡ entities_row plan.translation.module
@@ -42,6 +42,6 @@ pub record Tells (plan : Plan) (r : PlanRecord) : Type 0 where
   pub interned : TellsInterned plan.types r.interned
   -- the sizes and the fields of the structs that compiled code reads
   pub structs : TellsStructs (pointer_of plan.offsets) r.structs
-  -- the items of the element segments that are left, and of the passive ones
+  -- the items of the element segments that remain to be written, and of the passive ones
   pub items : TellsItems plan.translation r.items
   pub bodies : TellsBodies plan.translation.function_body_inputs r.bodies

@@ -1,4 +1,4 @@
--- What the tables say of segments that are left to be written.
+-- What the tables say of segments that remain to be written.
 use Rattle.std.specs.Prelude.{ℕ, List, [], ◌∷◌}
 use Rattle.std.specs.Int.{cast_unsigned, w32, w64}
 use Rattle.wasm_index.specs.declared.index.Index.{Index}
@@ -16,7 +16,8 @@ use Rattle.init_plan.specs.declared.translation.MemorySegmentOffset.TheVariants 
 use Rattle.plan_tables.specs.declared.rows.ElementsRow.{ElementsRow}
 use Rattle.plan_tables.specs.declared.rows.SegmentRow.{SegmentRow}
 
--- the kind and the number of a place: 1 a constant and its bits, 2 a global and its index, 3 anything else
+-- the kind and the number of an offset: 1 a constant and its bits, 2 a global and its index, 3
+-- anything else
 abbrev pub operator_place : ConstOp → ℕ × ℕ
 operator_place (ops.I32Const n) = (1, cast_unsigned w32 n)
 operator_place (ops.I64Const n) = (1, cast_unsigned w64 n)

@@ -1,4 +1,4 @@
--- Lists that stand end to end in one list.
+-- Lists that are end to end in one list.
 use Rattle.std.specs.Prelude.{ℕ, ◌+◌, List, [], ◌∷◌}
 use Rattle.plan_tables.specs.declared.rows.Span.{Span}
 

@@ -1,4 +1,4 @@
--- What a record tells of the structs that compiled code reads.
+-- What a record gives of the structs that compiled code reads.
 use Rattle.std.specs.Prelude.{◌≡◌, ℕ, Some, codes}
 use Rattle.vm_structs.specs.Fields.{offset_of, size_of, end_of}
 use Rattle.vm_structs.specs.Structs.{function_import, table_import, memory_import, tag_import, global_import, memory_definition, table_definition, global_definition, tag_definition, func_ref, store_context, static_context}

@@ -11,5 +11,5 @@ pub record TellsTables (t : ModuleTranslation) (r : TablesRecord) : Type 0 where
   -- the cells of the images of the defined tables, end to end
   pub images : r.images.now ≡ spans_from 0 (map (λ image. length image.items) t.module.table_initialization)
   pub cells : r.cells.now ≡ flat_map (λ image. map number_of image.items) t.module.table_initialization
-  -- what is left to be written, in order
+  -- what remains to be written, in order
   pub elements : r.elements.now ≡ map element_row t.table_initialization.segments.items

@@ -19,6 +19,6 @@ pub record TellsTypes (t : ModuleTranslation) (types : TypeList) (r : TypesRecor
   pub groups : r.groups.now ≡ map index_range types.groups
   -- the interned type of each function
   pub functions : r.functions.now ≡ map (λ f. listed_number f.signature) t.module.functions
-  -- its number among the functions that escape; the reserved number where it does not
+  -- its index among the functions that escape; the reserved index where it does not
   pub escapes : r.escapes.now ≡ map (λ f. number_of f.func_ref) t.module.functions
   pub signatures : r.signatures.now ≡ map number_of t.exported_signatures.items

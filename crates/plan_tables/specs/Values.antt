@@ -12,7 +12,7 @@ use Rattle.plan_lines.specs.TypeLines.{listed_number}
 use Rattle.plan_tables.specs.declared.rows.ValueRow.{ValueRow}
 use Rattle.plan_tables.specs.Numbers.{bit}
 
--- a heap type by its place in the enumeration
+-- a heap type by its position in the enumeration
 abbrev pub heap_number : WasmHeapType → ℕ
 heap_number heap.Extern = 0
 heap_number heap.NoExtern = 1

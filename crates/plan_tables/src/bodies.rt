@@ -13,7 +13,8 @@ use init_plan::FunctionBodyData;
 use std::alloc::Global;
 use wasm_spec::{AbstractHeapType, HeapType, RefType, UnpackedIndex, ValType};
 
-// The number of a heap type as it was read, in the order of the converted ones; 19 where it names a type.
+// The number of a heap type as it was read, in the order of the converted ones; 19 where it names a
+// type.
 fn read_heap_number(ty: &HeapType) -> u8
     ensures { result ≡ read_heap_number ty.now }
 {

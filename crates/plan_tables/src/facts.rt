@@ -1,4 +1,4 @@
-//! What is told by one number each.
+//! What is given as one number each.
 
 ghost use Rattle.std.specs.Prelude.{◌≡◌};
 ghost use Rattle.vm_offsets.specs.Layouts.{pointer_of};

@@ -24,12 +24,13 @@ use entity_map::OutOfMemory;
 use plan::Plan;
 use std::alloc::Global;
 
-/// Puts the tables of a plan into a record. They stand in memory that nothing of this library holds
-/// on to; bytes that the plan has from the module stay there. The plan is left without the bytes of
-/// its runtime data.
+/// Puts the tables of a plan into a record. The tables are in memory to which this library keeps no
+/// reference; bytes that the plan has from the module stay in the module. The plan no longer has
+/// the bytes of its runtime data.
 ///
 /// # Errors
-/// `OutOfMemory` where a table finds no memory: the record has the tables that were made before then.
+/// `OutOfMemory` where a table finds no memory: the record has the tables that were made before
+/// then.
 pub fn fill_record<'d>(
     alloc: Global,
     plan: &mut Plan<'d>,

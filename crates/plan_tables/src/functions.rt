@@ -90,7 +90,7 @@ fn branch_hints_of(
     Ok(rows)
 }
 
-// Which passive segment each element segment of the module is that is one.
+// Which passive segment an element segment of the module is, for each that is passive.
 fn passive_segments_of(
     alloc: Global,
     numbers: &SecondaryMap<ElemIndex, Option<PassiveElemIndex>>,

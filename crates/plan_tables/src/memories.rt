@@ -17,7 +17,7 @@ use std::ops::Range;
 use wasm_index::{DataIndex, MemoryIndex, RuntimeDataIndex};
 use wasm_module::MemoryInitialization;
 
-/// The tables of how memories begin. The translation is left without the bytes of its runtime data.
+/// The tables of how memories begin. The translation no longer has the bytes of its runtime data.
 pub(crate) fn memories_record<'d>(
     alloc: Global,
     translation: &mut ModuleTranslation<'d>,

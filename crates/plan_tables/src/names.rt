@@ -136,8 +136,8 @@ fn module_name_of(
     Ok((parts, text))
 }
 
-/// Puts imports, exports and the module's name into a record, and the text of that name beside it.
-/// Where memory ends it has those that were made.
+/// Puts imports, exports and the module's name into a record, with the text of that name. Where
+/// memory ends it has those that were made.
 pub(crate) fn fill_names<'d>(
     alloc: Global,
     module: &Module,

@@ -1,4 +1,4 @@
-//! Small numbers for what has none.
+//! Small numbers for values that are not numbers.
 
 ghost use Rattle.std.specs.Prelude.{◌≡◌};
 ghost use Rattle.plan_lines.specs.TypeLines.{listed_number};

@@ -16,7 +16,8 @@ use crate::struct_rows::Structs;
 #[repr(C)]
 #[derive(Clone, Copy)]
 pub struct RuntimeRow<'d> {
-    /// Whether the plan made the bytes; 0 where they are those of the module, which must outlive the plan.
+    /// Whether the plan made the bytes; 0 where they are those of the module, which must outlive
+    /// the plan.
     pub made: u32,
     /// The bytes.
     pub bytes: &'d [u8],
@@ -44,7 +45,7 @@ pub struct TypesRecord<'d> {
     pub groups: &'d [NumberRange],
     /// The interned type of each function, imported ones first.
     pub functions: &'d [u32],
-    /// The number of each function among those that escape; `u32::MAX` of one that does not.
+    /// The index of each function among those that escape; `u32::MAX` of one that does not.
     pub escapes: &'d [u32],
     /// The interned types of the functions that escape, each once.
     pub signatures: &'d [u32],
@@ -67,11 +68,11 @@ pub struct KindsRecord<'d> {
 pub struct MemoriesRecord<'d> {
     /// The runtime data: images, and the bytes of segments.
     pub runtime: &'d [RuntimeRow<'d>],
-    /// The range of each runtime data; they stand end to end from 0.
+    /// The range of each runtime data; the ranges are end to end from 0.
     pub runtime_ranges: &'d [NumberRange],
     /// The images of memories.
     pub images: &'d [ImageRow],
-    /// The data segments that are left to be written, in order.
+    /// The data segments that remain to be written, in order.
     pub segments: &'d [SegmentRow],
     /// The passive data segments that keep their bytes.
     pub passive: &'d [PassiveRow],
@@ -85,7 +86,7 @@ pub struct TablesRecord<'d> {
     pub images: &'d [Span],
     /// Functions by their indices; `u32::MAX` for the null reference.
     pub cells: &'d [u32],
-    /// The element segments that are left to be written, in order.
+    /// The element segments that remain to be written, in order.
     pub elements: &'d [ElementsRow],
 }
 
@@ -151,7 +152,7 @@ pub struct BodiesRecord<'d> {
     pub locals: &'d [LocalsRow],
 }
 
-/// What functions have beside their types, and passive elements.
+/// What functions have besides their types, and passive elements.
 #[repr(C)]
 #[derive(Clone, Copy)]
 pub struct FunctionsRecord<'d> {
@@ -226,11 +227,13 @@ pub struct InternedRecord<'d> {
 pub struct PlacesRecord<'d> {
     /// Of each of `expressed_globals`: `global_expressions`.
     pub globals: ExpressionsRecord<'d>,
-    /// Of the address of each of `segments`; no operators where the address is planned: `segment_places`.
+    /// Of the offset of each of `segments`; no operators where the offset is
+    /// planned: `segment_places`.
     pub segments: ExpressionsRecord<'d>,
-    /// Of the place of each of `elements`: `element_places`.
+    /// Of the offset of each of `elements`: `element_places`.
     pub elements: ExpressionsRecord<'d>,
-    /// Of the first value of each defined table; no operators where its cells begin as null: `table_values`.
+    /// Of the first value of each defined table; no operators where its cells begin as
+    /// null: `table_values`.
     pub tables: ExpressionsRecord<'d>,
 }
 
@@ -251,7 +254,7 @@ pub struct PlanRecord<'d> {
     /// Why the module is refused, from `BOBBINAZURE_MALFORMED` on; 0 of a plan.
     pub refusal: u32,
     /// Of an invalid module the rule that it breaks, from 1 to 10; of an unsupported one what is
-    /// not taken, from `BOBBINAZURE_COMPONENT` on.
+    /// not supported, from `BOBBINAZURE_COMPONENT` on.
     pub refusal_detail: u32,
     /// The line of the refusal, as the program prints it. It is never freed.
     pub refusal_line: &'static [u8],

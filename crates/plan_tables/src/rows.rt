@@ -31,7 +31,7 @@ pub struct Entities {
     pub imported_tags: u64,
 }
 
-/// What is told by one number each; in `bobbinazure_plan` they stand as they are.
+/// What is given as one number each; these numbers are fields of `bobbinazure_plan`.
 #[repr(C)]
 #[derive(Clone, Copy)]
 pub struct Facts {
@@ -50,9 +50,10 @@ pub struct Facts {
     pub start: u32,
     /// Whether a table can hold references that are collected.
     pub needs_gc_heap: u32,
-    /// How many functions escape, so that a reference to each stands in the context: `escaped_functions`.
+    /// How many functions escape, so that the context has a reference to each: `escaped_functions`.
     pub escaped: u64,
-    /// Where the contents of the code section begin in the module, in bytes; 0 without a code section.
+    /// Where the contents of the code section begin in the module, in bytes; 0 without a code
+    /// section.
     pub code_section_offset: u64,
     /// Where the module begins in the bytes that were read.
     pub module_offset: u64,
@@ -66,7 +67,7 @@ pub struct Facts {
 #[repr(C)]
 #[derive(Clone, Copy)]
 pub struct Context {
-    /// The size of the whole context.
+    /// The size of the complete context.
     pub size: u32,
     /// The imported memories.
     pub imported_memories: u32,
@@ -197,7 +198,7 @@ pub struct ImageRow {
     pub offset: u64,
 }
 
-/// A data segment that is left to be written: `bobbinazure_segment`.
+/// A data segment that remains to be written: `bobbinazure_segment`.
 #[repr(C)]
 #[derive(Clone, Copy)]
 pub struct SegmentRow {
@@ -208,7 +209,8 @@ pub struct SegmentRow {
     /// How `offset` gives its address, from `BOBBINAZURE_AT_BYTE` on: 0 as a planned address, 1 as
     /// a constant, 2 as a global, 3 not at all.
     pub kind: u32,
-    /// The address in bytes, or the index of the global that holds it; 0 where another expression gives it.
+    /// The address in bytes, or the index of the global that holds it; 0 where another expression
+    /// gives it.
     pub offset: u64,
 }
 
@@ -222,7 +224,7 @@ pub struct PassiveRow {
     pub runtime: u32,
 }
 
-/// An element segment that is left to be written: `bobbinazure_elements`.
+/// An element segment that remains to be written: `bobbinazure_elements`.
 #[repr(C)]
 #[derive(Clone, Copy)]
 pub struct ElementsRow {
@@ -271,7 +273,8 @@ pub struct OperatorRow {
     pub list: u8,
     /// The global, the function or the type that it names.
     pub index: u32,
-    /// The bits of a constant, of a vector the lower half; of `array.new_fixed` the number of elements.
+    /// The bits of a constant, of a vector the lower half; of `array.new_fixed` the number of
+    /// elements.
     pub low: u64,
     /// The upper half of the bits of a vector.
     pub high: u64,
@@ -303,7 +306,7 @@ pub struct HintsRow {
 pub struct BranchHintRow {
     /// The function, by its index.
     pub function: u32,
-    /// Where the branch stands, in bytes from the begin of the function's body.
+    /// Where the branch is, in bytes from the beginning of the function's body.
     pub offset: u32,
     /// Whether it is likely to be taken.
     pub taken: u32,
@@ -315,7 +318,7 @@ pub struct BranchHintRow {
 pub struct PassiveSegmentRow {
     /// Its number in the element section.
     pub segment: u32,
-    /// Its number among the passive ones, as of `passive_elements`.
+    /// Its index among the passive ones, as of `passive_elements`.
     pub passive: u32,
 }
 
@@ -361,7 +364,8 @@ pub struct ExportRow {
 pub struct LayoutRow {
     /// The interned type.
     pub ty: u32,
-    /// What its objects are, from `BOBBINAZURE_ARRAY_OBJECT` on: 0 an array, 1 a struct, 2 an exception.
+    /// What its objects are, from `BOBBINAZURE_ARRAY_OBJECT` on: 0 an array, 1 a struct, 2 an
+    /// exception.
     pub kind: u32,
     /// The size of an object in bytes; of an array, the bytes before its elements.
     pub size: u32,
@@ -396,9 +400,11 @@ pub struct TypeRow {
     pub is_final: u8,
     /// Whether threads may share what is of it.
     pub shared: u8,
-    /// Which list the supertype is of, from `BOBBINAZURE_NO_INDEX` on, which says that there is none.
+    /// Which list the supertype is of, from `BOBBINAZURE_NO_INDEX` on, which says that there is
+    /// none.
     pub supertype_list: u8,
-    /// Which list the function type is of, from `BOBBINAZURE_NO_INDEX` on, which says that there is none.
+    /// Which list the function type is of, from `BOBBINAZURE_NO_INDEX` on, which says that there is
+    /// none.
     pub function_list: u8,
     /// The supertype.
     pub supertype: u32,

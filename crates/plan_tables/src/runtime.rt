@@ -9,7 +9,7 @@ use init_plan::RuntimeBytes;
 use std::alloc::Global;
 use std::mem;
 
-// The bytes of one runtime data, whose owner is left without any.
+// The bytes of one runtime data, whose owner then has none.
 fn taken_row<'d>(bytes: &mut RuntimeBytes<'d>) -> RuntimeRow<'d>
     ensures { runtime_told result ≡ runtime_row bytes.old }
 {
@@ -22,8 +22,8 @@ fn taken_row<'d>(bytes: &mut RuntimeBytes<'d>) -> RuntimeRow<'d>
     }
 }
 
-/// As many rows without bytes as are asked for: the room for those that are taken, so that nothing
-/// can fail once one is.
+/// As many rows without bytes as requested. They are the capacity for the rows that are moved, so
+/// that nothing can fail once one is moved.
 pub(crate) fn empty_rows<'d>(
     alloc: Global,
     count: usize,
@@ -37,7 +37,7 @@ pub(crate) fn empty_rows<'d>(
     Ok(Vec::from_elem(alloc, row, count)?)
 }
 
-/// Takes the bytes of each runtime data; those that the plan made are not copied.
+/// Moves the bytes of each runtime data; those that the plan made are not copied.
 pub(crate) fn take_bytes<'d>(planned: &mut [RuntimeBytes<'d>], rows: &mut [RuntimeRow<'d>])
     requires { length rows.old ≡ length planned.old }
     ensures { map runtime_told rows.new ≡ map runtime_row planned.old }

@@ -1,4 +1,4 @@
-//! Segments that are left to be written, as tables.
+//! Segments that remain to be written, as tables.
 
 ghost use Rattle.std.specs.Prelude.{◌≡◌, map, IfOk};
 ghost use Rattle.plan_tables.specs.Segments.{operator_place, expression_place, offset_place, segment_row, planned_of, element_row};
@@ -11,7 +11,7 @@ use wasm_convert::{ConstExpr, ConstOp};
 use wasm_index::{MemoryIndex, RuntimeDataIndex};
 use wasm_module::TableSegment;
 
-// The kind and the number of a place that one operator gives.
+// The kind and the number of an offset that one operator gives.
 fn operator_place(operator: ConstOp) -> (u32, u64)
     ensures { result ≡ operator_place operator }
 {
@@ -23,7 +23,7 @@ fn operator_place(operator: ConstOp) -> (u32, u64)
     }
 }
 
-// The kind and the number of a place that an expression gives.
+// The kind and the number of an offset that an expression gives.
 fn expression_place(expression: &ConstExpr) -> (u32, u64)
     ensures { result ≡ expression_place expression.now }
 {
@@ -33,7 +33,7 @@ fn expression_place(expression: &ConstExpr) -> (u32, u64)
     }
 }
 
-// The kind and the number of the place of a planned segment.
+// The kind and the number of the offset of a planned segment.
 fn offset_place(offset: &MemorySegmentOffset) -> (u32, u64)
     ensures { result ≡ offset_place offset.now }
 {
@@ -67,7 +67,7 @@ pub(crate) fn planned_of<'a>(
     }
 }
 
-/// The data segments that are left to be written, in order.
+/// The data segments that remain to be written, in order.
 pub(crate) fn segments_of(
     alloc: Global,
     planned: &[(MemoryIndex, MemorySegmentOffset, RuntimeDataIndex)],
@@ -93,7 +93,7 @@ fn element_row(segment: &TableSegment) -> ElementsRow
     }
 }
 
-/// The element segments that are left to be written, in order.
+/// The element segments that remain to be written, in order.
 pub(crate) fn elements_of(
     alloc: Global,
     segments: &[TableSegment],

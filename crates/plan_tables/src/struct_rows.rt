@@ -1,7 +1,7 @@
 //! Rows of where the fields of the structs begin that compiled code reads, with C's layout;
 //! `embed/generate` reads them as those of `rows`.
 //!
-//! Each number is in bytes, and a field's is counted from the begin of its struct.
+//! Each number is in bytes, and a field's is counted from the beginning of its struct.
 
 /// An imported function: `bobbinazure_function_import_layout`.
 #[repr(C)]
@@ -157,7 +157,7 @@ pub struct StoreContextLayout {
 pub struct StaticContextLayout {
     /// Where what depends on the module begins.
     pub size: u32,
-    /// The number by which a context is known.
+    /// The number by which a context is recognised.
     pub magic: u32,
     /// The pointer to the context of the store.
     pub store_context: u32,

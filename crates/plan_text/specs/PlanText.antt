@@ -76,7 +76,7 @@ text_of_plan plan =
     ++ memories_text plan.translation
     ++ sizes_text plan
 
--- each name has a text in the pool, and each space holds what is imported into it
+-- each name has a text in the pool, and each index space holds what is imported into it
 pub record IsPrintable (t : ModuleTranslation) : Type 0 where
   pub counts : HoldsImports (record_of t.module)
   pub imports : All (HasNames t.module.strings) t.module.initializers.items

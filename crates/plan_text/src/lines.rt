@@ -17,7 +17,7 @@ use plan_lines::{
 };
 use std::alloc::Global;
 
-/// The most bytes for which a text has room before it grows.
+/// The largest capacity, in bytes, with which a text begins.
 const MOST_ROOM: usize = 64 << 20;
 
 /// The text of a plan, each line ended by a line feed.
@@ -30,7 +30,7 @@ pub fn plan_text(alloc: Global, plan: &Plan<'_>) -> Result<Vec<u8>, OutOfMemory>
     ensures { IfOk result (λ text. text.items ≡ text_of_plan plan.now) }
 {
     // A long text that grows is moved, and memory that is not written costs nothing: so it begins
-    // with more room than most texts take.
+    // with more capacity than most texts need.
     let length = plan.translation.wasm.len();
     let mut text = Text::with_capacity(alloc, 4 * length.min(MOST_ROOM / 4))?;
     append_types(&mut text, &plan.types)?;

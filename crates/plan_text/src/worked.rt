@@ -7,7 +7,7 @@ use plan::TranslateError;
 use rule_spec::Rule;
 use wasm_spec::What;
 
-/// Refusals name the rule that is broken, or what is not taken.
+/// Refusals name the rule that is broken, or what is not supported.
 pub fn worked_refusals()
     ensures memory_rule { text_of_refusal (TranslateError.Invalid Rule.L4) ≡ codes "refused invalid L4\n" }
     ensures component { text_of_refusal (TranslateError.Unsupported What.Component) ≡ codes "refused unsupported component\n" }

@@ -1,4 +1,4 @@
--- What the call of two modules tells.
+-- What the call that links two modules reports.
 use Rattle.std.proofs.Common.{◌≡◌, List, ℕ, inl, inr, subst}
 use Rattle.std.specs.Prelude.{⊤}
 use Rattle.command_words.specs.declared.command.Command.{Command}

@@ -19,7 +19,7 @@ abbrev pub collector_for : ℕ → Collector
 collector_for zero = Drc
 collector_for (suc n) = Null
 
--- the command without a file that the options stand for
+-- the command without a file that the options represent
 abbrev pub command_for : PlanOptions → Command
 command_for o = record {
   generate = None;
@@ -42,7 +42,7 @@ command_for o = record {
 abbrev pub options_for : PlanOptions → Options
 options_for o = options_of (command_for o)
 
--- they can be taken
+-- they are accepted
 pub record AreRight (o : PlanOptions) : Type 0 where
   pub pointer : (o.pointer ≡ 4) ⊎ (o.pointer ≡ 8)
   pub page_size : IsPowerOfTwo o.page_size
@@ -64,6 +64,6 @@ pub record HasRefusal (o : PlanOptions) (bytes : List ℕ) (P : TranslateError �
   pub cause : HasCause (options_for o) bytes refusal
   pub holds : P refusal
 
--- the record has a text, and says whether it stands in memory of its own
+-- the record has a text, and says whether it is in memory of its own
 abbrev pub GivesText : ℕ → List ℕ → TextRecord → Type 0
 GivesText made text r = (r.text.now ≡ text) × (r.made ≡ made)

@@ -1,4 +1,4 @@
--- What a record tells of two modules that are linked.
+-- What a record reports of two modules that are linked.
 use Rattle.std.specs.Prelude.{◌≡◌, ◌⊎◌, ⊤, ℕ, List, [], map}
 use Rattle.plan.specs.declared.plan.Plan.{Plan}
 use Rattle.plan.specs.declared.error.TranslateError.{TranslateError}
@@ -17,7 +17,7 @@ use Rattle.planner_c.specs.Refusals.{refusal_row}
 
 -- ---- answers
 
--- in the order in which the rules are asked
+-- in the order in which the rules are checked
 abbrev pub mismatch_number : Mismatch → ℕ
 mismatch_number rule.Kind = 1
 mismatch_number rule.FuncType = 2
@@ -43,21 +43,21 @@ answer_row (answer.Mismatch broken) = (2, mismatch_number broken, text_of_mismat
 abbrev pub answer_told : ImportAnswerRecord → ℕ × ℕ × List ℕ
 answer_told r = (r.answer, r.detail, r.line.now)
 
--- the record tells what each import of the second is given by the exports of the first
+-- the record reports what each import of the second is given by the exports of the first
 pub record TellsLinks (first : Plan) (as_module : List ℕ) (second : Plan) (r : LinkRecord) : Type 0 where
   pub planned : (r.refused ≡ 0) × (r.refusal ≡ 0) × (r.refusal_detail ≡ 0) × (r.refusal_line.now ≡ [])
   pub answers : List ImportAnswer
   pub linked : IsLinked first as_module second answers
   pub told : map answer_told r.answers.now ≡ map answer_row answers
 
--- both have plans, of which this is told
+-- both have plans, of which this is reported
 abbrev pub LinksPlans : PlanOptions → List ℕ → List ℕ → List ℕ → LinkRecord → Type 0
 LinksPlans o exporter importer as_module r =
     HasPlan o exporter (λ first. HasPlan o importer (λ second. TellsLinks first as_module second r))
 
 -- ---- refusals
 
--- the record tells the refusal of one of the modules, by its number
+-- the record reports the refusal of one of the modules, by its number
 pub record TellsRefusalOf (which : ℕ) (e : TranslateError) (r : LinkRecord) : Type 0 where
   pub which_one : r.refused ≡ which
   pub numbers : (r.refusal, r.refusal_detail) ≡ refusal_row e

@@ -29,7 +29,7 @@ what_number what.Operator = 4
 what_number what.ExactImport = 5
 what_number what.InterfaceTypes = 6
 
--- its kind, and which rule is broken, or what is not taken
+-- its kind, and which rule is broken, or what is not supported
 abbrev pub refusal_row : TranslateError → ℕ × ℕ
 refusal_row refusal.Malformed = (1, 0)
 refusal_row (refusal.Invalid r) = (2, rule_number r)
@@ -38,7 +38,7 @@ refusal_row refusal.TooLarge = (4, 0)
 refusal_row refusal.OffsetOverflow = (5, 0)
 refusal_row refusal.OutOfMemory = (0, 0)
 
--- the record tells the refusal
+-- the record reports the refusal
 pub record TellsRefusal (e : TranslateError) (r : PlanRecord) : Type 0 where
   pub numbers : (r.refusal, r.refusal_detail) ≡ refusal_row e
   pub line : r.refusal_line.now ≡ text_of_refusal e

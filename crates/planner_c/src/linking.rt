@@ -21,7 +21,7 @@ use std::alloc::Global;
 use translate::{NO_MEMORY, REFUSED, SUCCESS, USAGE, refusal_line};
 
 /// Plans two modules, and puts into the record what each import of the second is given by the
-/// exports of the first, which stand under the name `as_module`: `bobbinazure_link`.
+/// exports of the first, which are defined under the name `as_module`: `bobbinazure_link`.
 /// Answers 0 where both are planned, 1 where one is refused, 2 where the options are wrong or the
 /// name is not UTF-8, 5 where there is no memory.
 /// At 2 and 5 the record is as it was.
@@ -35,12 +35,12 @@ pub extern "C" fn bobbinazure_link<'d>(
     out: &mut LinkRecord<'d>,
 ) -> u32
     ensures statuses { IsStatus result }
-    // Both spell modules that keep the listed rules, and the record tells what each import of the
+    // Both spell modules that keep the listed rules, and the record reports what each import of the
     // second is given.
     ensures planned { result ≡ 0 → LinksPlans options.now exporter.now importer.now as_module.now out.new }
-    // The refusal that is told has its cause, and is of the first module that is refused.
+    // The refusal that is reported has its cause, and is of the first module that is refused.
     ensures refused { result ≡ 1 → RefusesOne options.now exporter.now importer.now out.new }
-    // Wrong options, or a name that is not UTF-8, are told, exactly; where nothing is answered,
+    // Wrong options, or a name that is not UTF-8, are reported, exactly; where nothing is answered,
     // nothing is changed.
     ensures usage { (result ≡ 2) ↔ ¬ (AreRight options.now × IsUtf8 as_module.now) }
     ensures same { (result ≡ 2) ⊎ (result ≡ 5) → out.new ≡ out.old }

@@ -1,4 +1,4 @@
-//! What C is told of two modules that are linked.
+//! What C reads of two modules that are linked.
 
 /// What an import is given: `bobbinazure_import_answer`.
 #[repr(C)]

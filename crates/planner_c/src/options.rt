@@ -13,11 +13,11 @@ use wasm_types::Tunables;
 #[derive(Clone, Copy)]
 pub struct PlanOptions {
     /// Whether memories begin as images, where the data segments allow it.
-    /// A module can then ask for `max_image` bytes with each memory that it defines, in some
+    /// A module can then require `max_image` bytes with each memory that it defines, in some
     /// fifteen bytes of its own.
     pub cow: u8,
     /// Whether tables begin as images, as far as their elements allow it.
-    /// A module can then ask for 1,048,576 cells of four bytes with each table that it defines, in
+    /// A module can then require 1,048,576 cells of four bytes with each table that it defines, in
     /// ten bytes of its own.
     pub lazy_tables: u8,
     /// Whether hints of branches are read.
@@ -36,7 +36,8 @@ pub struct PlanOptions {
     pub max_image: u64,
 }
 
-/// The command that the options stand for, where they can be taken; none exactly where they cannot.
+/// The command that the options represent, where they are accepted; none exactly where they are
+/// not.
 pub(crate) fn command_of(options: &PlanOptions) -> Option<Command>
     ensures usable { IfSome result IsUsable }
     ensures command { IfSome result (λ c. c ≡ command_for options.now) }

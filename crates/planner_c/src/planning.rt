@@ -21,7 +21,8 @@ use translate::{
     Command, NO_MEMORY, REFUSED, SUCCESS, USAGE, plan_text, refusal_line, translate_module,
 };
 
-/// Plans the module that the bytes spell, and puts the plan into the record: `bobbinazure_make_plan`.
+/// Plans the module that the bytes spell, and puts the plan into the record:
+/// `bobbinazure_make_plan`.
 /// Answers 0 of a plan, 1 of a refusal, 2 where the options are wrong, 5 where there is no memory.
 /// At 2 the record is as it was; at 5 it has the tables that were made.
 #[unsafe(no_mangle)]
@@ -32,11 +33,11 @@ pub extern "C" fn bobbinazure_make_plan<'d>(
     out: &mut PlanRecord<'d>,
 ) -> u32
     ensures statuses { IsStatus result }
-    // The bytes spell a module that keeps the listed rules, and the record tells its plan.
+    // The bytes spell a module that keeps the listed rules, and the record represents its plan.
     ensures planned { result ≡ 0 → HasPlan options.now bytes.now (λ plan. Tells plan out.new) }
-    // Each refusal has its cause, and the record tells it.
+    // Each refusal has its cause, and the record reports it.
     ensures refused { result ≡ 1 → HasRefusal options.now bytes.now (λ refusal. TellsRefusal refusal out.new) }
-    // Wrong options are told, exactly, and change nothing.
+    // Wrong options are reported, exactly, and change nothing.
     ensures usage { (result ≡ 2) ↔ ¬ AreRight options.now }
     ensures same { result ≡ 2 → out.new ≡ out.old }
     // Valid input is not refused.
@@ -156,7 +157,7 @@ pub(crate) fn planned<'d>(
     )
 }
 
-/// The plan of the bytes and its whole text.
+/// The plan of the bytes and its complete text.
 fn texted<'d>(
     alloc: Global,
     command: &Command,

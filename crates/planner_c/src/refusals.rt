@@ -20,7 +20,7 @@ pub(crate) fn tell_refusal(refusal: &TranslateError, out: &mut PlanRecord<'_>)
     out.refusal_line = refusal_line(refusal).as_bytes();
 }
 
-/// The kind of a refusal, and which rule is broken, or what is not taken.
+/// The kind of a refusal, and which rule is broken, or what is not supported.
 pub(crate) fn refusal_numbers(refusal: &TranslateError) -> (u32, u32)
     ensures { result ≡ refusal_row refusal.now }
 {

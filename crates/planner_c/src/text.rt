@@ -6,6 +6,6 @@
 pub struct TextRecord<'d> {
     /// In UTF-8, without a zero at the end.
     pub text: &'d [u8],
-    /// Whether the text stands in memory of its own, which `bobbinazure_text_free` gives back.
+    /// Whether the text is in memory of its own, which `bobbinazure_text_free` frees.
     pub made: u32,
 }

@@ -1,4 +1,4 @@
--- A translation that is planned can be laid.
+-- A translation that is planned can be run.
 use Rattle.std.proofs.Common.{◌≡◌, ℕ, ◌+◌, ◌-◌, ◌<◌, ◌≤◌, ◌⊎◌, inl, inr, Bool, List, length, drop, None, Some, sym, ◌∙◌, ap, arith}
 use Rattle.std.specs.Prelude.{slice_get, All, unwrap_or}
 use Rattle.std.specs.Option.{option_map}

@@ -74,7 +74,8 @@ planned-below n end (s ∷ ss) low =
 
 -- ---- a plan
 
--- an image is of a defined memory, lies within it, and is whole pages; no segment is then left to be written
+-- an image is of a defined memory, is within it, and is complete pages; no segment then remains to
+-- be written
 pub record IsImageOf (page imports : ℕ) (memories : List ImageMemory) (plan : MemoryPlan) (i : ℕ) (entry : ℕ × ℕ) : Type 0 where
   pub defined : imports ≤ i
   pub memory : ImageMemory

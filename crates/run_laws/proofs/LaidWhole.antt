@@ -1,4 +1,4 @@
--- What is laid of a plan is what the module's initialisers give.
+-- A run of a plan gives what the module's initialisers give.
 use Rattle.std.proofs.Common.{◌≡◌, ◌∙◌, ℕ, List, map, ap}
 use Rattle.init_plan.specs.declared.translation.ModuleTranslation.{ModuleTranslation}
 use Rattle.init_plan.specs.Views.{memory_plan_of}

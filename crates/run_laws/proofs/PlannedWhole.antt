@@ -1,4 +1,4 @@
--- The translation of a plan can be laid.
+-- The translation of a plan can be run.
 use Rattle.std.proofs.Common.{◌≡◌, ℕ, List, map, sym, subst}
 use Rattle.std.specs.Int.{IsPowerOfTwo}
 use Rattle.wasm_spec.specs.Module.{Module, defined_memories, HasFewEntries}

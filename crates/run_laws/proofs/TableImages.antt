@@ -13,7 +13,7 @@ use Rattle.plan_run.proofs.Lists.{some-at}
 use Rattle.form_types.proofs.AllOf.{All-joined}
 
 module _ (lazy : Bool) (imports : ℕ) (tables : List DefinedTable) where
-  -- what may be taken ends within its table
+  -- what an image may hold ends within its table
   end-within : (s : ActiveElements) (m : ℕ) (t : DefinedTable) → MayBeTaken lazy imports tables s → s.table ≡ m → slice_get tables (m - imports) ≡ Some t
       → elements_end s ≤ t.minimum
   end-within s m t may on at =

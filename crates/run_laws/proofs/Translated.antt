@@ -1,4 +1,4 @@
--- A translation whose memories and then tables are planned can be laid.
+-- A translation whose memories and then tables are planned can be run.
 use Rattle.std.proofs.Common.{◌≡◌, ℕ, ◌≤◌, Bool, List, length, sym, subst, arith}
 use Rattle.std.specs.Int.{IsPowerOfTwo}
 use Rattle.wasm_spec.specs.Module.{Module}

@@ -1,4 +1,4 @@
--- What the calls that plan a translation promise, as far as it is to be laid. The fields are
+-- What the calls that plan a translation promise, as far as a run depends on it. The fields are
 -- clauses of these calls.
 use Rattle.std.specs.Prelude.{◌≡◌, Bool, length}
 use Rattle.module_types.specs.Builder.{BuilderState, builder_view}
@@ -30,7 +30,7 @@ pub record GainsStartup (t : ModuleTranslation) (old new : BuilderState) : Type 
   pub kind : Startup
   pub types : builder_view new ≡ types_after kind t.module.startup (builder_view old)
 
--- so many imports as the translation has
+-- as many imports as the translation has
 pub record AreImportsOf (t : ModuleTranslation) (imports : Imports) : Type 0 where
   pub globals : length imports.globals.items ≡ t.module.num_imported_globals
   pub memories : length imports.memories.items ≡ t.module.num_imported_memories

@@ -30,22 +30,22 @@ ghost use Rattle.run_laws.specs.Planned.{MemoriesArePlanned, TablesArePlanned, G
 use init_plan::held_agreement_laws;
 use plan_run::agreement_law;
 
-/// What is planned can be laid: what `translate` answers, once both finalize calls have succeeded
-/// on it, and the translation of each plan that `translate_module` answers.
+/// What is planned can be run: what `translate` returns, once both finalize calls have succeeded on
+/// it, and the translation of each plan that `translate_module` returns.
 pub fn translated_is_finished()
     ensures translated { (tunables : Tunables) (index : Index StaticModuleSpace) (validator : ℕ) (bytes : List ℕ) (types : BuilderState)
         (options : ImageOptions) (lazy : Bool) (old mid new : ModuleTranslation) → IsTranslated tunables index validator bytes old types
         → IsPowerOfTwo options.page → MemoriesArePlanned options old mid → TablesArePlanned lazy mid new → Finished new }
     ensures planned { (o : Options) (bytes : List ℕ) (plan : Plan) → IsPowerOfTwo o.init.page_size → IsPlanned o bytes plan → Finished plan.translation }
 {
-    // What the proof rests on: it does nothing when it is run.
+    // The proof depends on this call, which does nothing when it is run.
     held_agreement_laws();
 }
 
 /// Struct types have as many fields as in the module, where the types of a translation are the
 /// indices of the declared ones, and the list is the interned list of the module. So they have in
-/// what `translate` answers, with the list that `finish` gives once both finalize calls have
-/// succeeded on it, and in each plan that `translate_module` answers.
+/// what `translate` returns, with the list that `finish` gives once both finalize calls have
+/// succeeded on it, and in each plan that `translate_module` returns.
 pub fn fields_law()
     ensures listed { (m : Module) (t : ModuleTranslation) (types : TypeList) (startup : Bool) → Keeps m → t.module.types ≡ map type_index (declared m)
         → map interned_of types.types ≡ (interned_list m startup).types → HasFieldsOf m t types }
@@ -56,15 +56,15 @@ pub fn fields_law()
     ensures planned { (o : Options) (bytes : List ℕ) (plan : Plan) (is : IsPlanned o bytes plan) → HasFieldsOf is.meaning plan.translation plan.types }
 {}
 
-/// What is laid of a plan that `translate_module` answers is what the initialisers of the module
-/// give that the bytes spell.
+/// A plan that `translate_module` returns gives, when it is run, what the initialisers of the
+/// module give that the bytes spell.
 pub fn laid_law()
     ensures { (o : Options) (bytes : List ℕ) (plan : Plan) (is : IsPlanned o bytes plan) (w : Way) (imports : Imports) (laid : Laid)
         → AreImportsOf plan.translation imports → GlobalsAreLaid plan.translation plan.types imports laid
         → MemoriesAreLaid plan.translation plan.types w imports laid → TablesAreLaid plan.translation plan.types imports laid
         → IsOfModule is.meaning plan.translation imports laid }
 {
-    // What the proof rests on: it does nothing when it is run.
+    // The proof depends on this call, which does nothing when it is run.
     agreement_law();
 }
 

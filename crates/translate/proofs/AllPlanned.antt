@@ -1,4 +1,5 @@
--- A translation whose memories and then tables are planned is the planned translation of its module.
+-- A translation whose memories and then tables are planned is the planned translation of its
+-- module.
 use Rattle.std.proofs.Common.{◌≡◌, ◌<◌, ◌+◌, ℕ, false, List, length, sym, ap, subst, ◌∙◌}
 use Rattle.std.proofs.lemmas.List.{length-map}
 use Rattle.wasm_spec.specs.Module.{Module}
@@ -59,7 +60,7 @@ module _ {tunables : Tunables} {bytes : List ℕ} {old : ModuleTranslation} {b :
   room : length listed.types + 1 < 4294967295
   room = first_room told.meaning (builder_view b) told.types
 
-  -- there is room for the startup type, before the memories are planned and once they are
+  -- the startup type still fits, before the memories are planned and once they are
   pub room_first : length (starts (builder_view b)).built.types < 4294967295
   room_first = has_room listed kind old.module.startup (builder_view b) started room
 

@@ -159,7 +159,7 @@ module _ (i : InitOptions) (bytes : List ℕ) (m : plain.Module) (read : IsReada
   both : sum_by length (map (λ (s : ActiveSegment). s.bytes) segments) + sum_by length (passive_bytes m) ≡ sum_by (λ (s : Segment). length s.bytes) (plain.segments m)
   both = bytes-few 0 (plain.segments m)
 
-  -- an image lies on a defined memory, and is short
+  -- an image is of a defined memory, and is short
   module _ (images-are : PlansImages (images i) imports defined segments (passive_bytes m) plan) where
     bounded : (j : ℕ) (image : MemoryImage) → slice_get images-are.images j ≡ Some (Some image)
         → (imports ≤ j) × (length image.bytes ≤ 2 * data_size (bytes_on j segments) + most)

@@ -1,5 +1,5 @@
--- The counts of a planned translation are those of the module, and its spaces hold what is imported
--- into them.
+-- The counts of a planned translation are those of the module, and its index spaces hold what is
+-- imported into them.
 use Rattle.std.proofs.Common.{◌≡◌, ◌≤◌, ◌+◌, ◌-◌, ℕ, false, not, cond, List, [], ◌∷◌, ◌++◌, length, length-append, map, drop, refl, sym, ap, ◌∙◌, arith}
 use Rattle.std.specs.Prelude.{count_by}
 use Rattle.std.specs.List.{enumerate_from, flat_map}
@@ -50,7 +50,7 @@ ranges_counted start (n ∷ ns) = let more = ranges_counted (start + n) ns in om
 within : {A : Type 0} (xs ys : List A) (n k : ℕ) → n ≡ length xs → k ≡ length (xs ++ ys) → n ≤ k
 within xs ys n k few all = let l = length-append xs ys in omega (arith, few, all, l)
 
--- a startup function stands where it may run
+-- there is a startup function where it may run
 runs_same : (kind : Startup) (ty : EngineOrModuleTypeIndex) → has_startup (startup_with kind ty) ≡ runs kind
 runs_same Never ty = refl
 runs_same kind ty = refl

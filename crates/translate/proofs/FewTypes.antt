@@ -23,7 +23,7 @@ listed-long m =
     omega (arith, ap length e.types, length-append (taken (placed_groups m)).built.types e.more, e.counted)
 
 module _ (bytes : List ℕ) (m : plain.Module) (read : IsReadable bytes m) where
-  -- the header has room for the startup type
+  -- the bytes of the header allow for the startup type
   without : length (interned_list m false).types + 1 ≤ 2 * length bytes
   without =
       let gs = placed_groups m in

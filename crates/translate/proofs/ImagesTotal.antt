@@ -50,14 +50,15 @@ on-all k (s ∷ ss) = by (s.memory == k) (nat_lt 0 (length s.bytes)) (sum_by-con
   by true false e others = omega (arith, others, e)
   by false some e others = omega (arith, others, e)
 
--- ---- images from a memory on, where each is bounded by the segments on its memory, and imported memories have none
+-- ---- images from a memory on, where each is bounded by the segments on its memory, and imported
+-- memories have none
 
 module _ (imports most : ℕ) (active : List ActiveSegment) where
   -- the image of a memory is bounded, and the memory is a defined one
   abbrev IsBounded : ℕ → MemoryImage → Type 0
   IsBounded k image = (imports ≤ k) × (length image.bytes ≤ 2 * data_size (bytes_on k active) + most)
 
-  -- so many memories are left, of which so many are defined
+  -- so many memories remain, of which so many are defined
   pub images-from : (k left : ℕ) (xs : List (Option MemoryImage)) → length xs ≡ (imports - k) + left
       → ((j : ℕ) (image : MemoryImage) → slice_get xs j ≡ Some (Some image) → IsBounded (k + j) image)
       → sum_by length (image_bytes xs) ≤ 2 * sum_by (from k) active + left * most

@@ -28,7 +28,7 @@ types-keyed at n [] = refl
 types-keyed at n (t ∷ types) = ap (λ ts. t ∷ ts) (types-keyed at (n + 1) types)
 
 module _ {K : Type 0} (header : ℕ) where
-  -- these are the layouts of all types but those that are left, and their objects are small
+  -- these are the layouts of all types but those that remain, and their objects are small
   pub record AreLaidOut (types : List WasmSubType) (so_far : List (Option GcLayout)) (left : List (K × WasmSubType)) : Type 0 where
     pub done : List WasmSubType
     pub parts : types ≡ done ++ map (λ p. p.1) left

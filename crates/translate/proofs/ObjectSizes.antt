@@ -1,4 +1,4 @@
--- The size of an object is told by its type as data.
+-- The size of an object is given by its type as data.
 use Rattle.std.proofs.Common.{◌≡◌, ◌∙◌, ℕ, ◌+◌, List, [], ◌∷◌, map, refl, sym, ap}
 use Rattle.std.specs.Prelude.{max}
 use Rattle.std.specs.Int.{next_multiple_of}

@@ -1,4 +1,5 @@
--- What the plan of a translation's memories promises of the module whose lists the translation holds.
+-- What the plan of a translation's memories promises of the module whose lists the translation
+-- holds.
 use Rattle.std.proofs.Common.{◌≡◌, ◌<◌, ◌-◌, ◌^◌, ℕ, List, length, map, None, refl, ap}
 use Rattle.std.specs.Prelude.{Contains, slice_get, sum_by}
 use Rattle.wasm_spec.specs.Module.{Module, imported_memories, defined_memories, segments}

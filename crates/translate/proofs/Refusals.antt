@@ -1,4 +1,4 @@
--- Why the plans of memories and tables fail, as why the whole does.
+-- Why the plans of memories and tables fail, as the reason why there is no plan at all.
 use Rattle.std.proofs.Common.{◌≡◌, ℕ, List, length, refl, sym, ap, subst, inr, arith}
 use Rattle.std.specs.Prelude.{sum_by}
 use Rattle.wasm_spec.specs.Module.{Module}

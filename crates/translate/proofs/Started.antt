@@ -1,4 +1,4 @@
--- Startup, as it is raised from one call to the next, and the builder beside it.
+-- Startup, as it is raised from one call to the next, with the builder.
 use Rattle.std.proofs.Common.{◌≡◌, ◌<◌, ◌+◌, ℕ, Bool, true, false, not, [], ◌∷◌, length, length-append, Option, Some, None, refl, ap, arith}
 use Rattle.std.specs.Prelude.{if◌then◌else◌}
 use Rattle.std.proofs.lemmas.Bool.{cases_Bool}
@@ -21,7 +21,8 @@ abbrev index_when : Built → Bool → Option ℕ
 index_when types false = None
 index_when types true = Some (length types.types)
 
--- startup runs then, and the builder holds these types, and the startup type behind them where it may run
+-- startup runs then, and the builder holds these types, and the startup type behind them where it
+-- may run
 pub record IsStarted (types : Built) (kind : Startup) (s : ModuleStartup) (b : Builder) : Type 0 where
   pub startup : s ≡ startup_with kind (type_index (length types.types))
   pub built : b.built ≡ with_startup types (runs kind)
@@ -33,7 +34,7 @@ pub kind_of : (types : Built) (kind : Startup) (s : ModuleStartup) (b : Builder)
 kind_of types Never s b h = ap startup_kind h.startup
 kind_of types kind s b h = ap startup_kind h.startup
 
--- one type more has room where two have
+-- one type more fits where two more fit
 pub has_room : (types : Built) (kind : Startup) (s : ModuleStartup) (b : Builder) → IsStarted types kind s b → length types.types + 1 < 4294967295
     → length (starts b).built.types < 4294967295
 has_room types Never s b h room = rw (h.index, h.built) (let l = length-append types.types (startup_type ∷ []) in omega (arith, l))
@@ -55,7 +56,7 @@ raise types Never after s b h up = rw h.startup (record {
 raise types before Never s b h up = let e = up refl in absurd cc
 raise types before after s b h up = rw h.startup (record { startup = refl; built = h.built; index = h.index; sound = h.sound })
 
--- raised by a plan, from the startup that stands
+-- raised by a plan, from the present startup
 pub next : (types : Built) (by : Startup → Startup) (kind : Startup) (s after : ModuleStartup) (b gained : Builder)
     → ((k : Startup) → IsRaised k (by k)) → IsStarted types kind s b → after ≡ raised (by (startup_kind s)) s b
     → gained ≡ types_after (by (startup_kind s)) s b → IsStarted types (by kind) after gained
@@ -92,6 +93,6 @@ few : (m : Module) (runs : Bool) (n : ℕ) → n ≡ length (interned_list m run
 few m true n e lt = let l = length-append (interned_list m false).types (startup_type ∷ []) in omega (arith, e, l)
 few m false n e lt = omega (arith, e)
 
--- there is room for the startup type
+-- the startup type still fits
 pub first_room : (m : Module) (b : Builder) → HoldsTypes m b → length (interned_list m false).types + 1 < 4294967295
 first_room m b h = few m (starts_always m) (length b.built.types) (ap (λ (t : Built). length t.types) h.built) h.room

@@ -1,4 +1,4 @@
--- What the plans of memories and tables leave of a translation together.
+-- What the plans of memories and tables together leave unchanged in a translation.
 use Rattle.std.proofs.Common.{sym, ap, ◌∙◌, ◌≡◌}
 use Rattle.init_plan.specs.declared.translation.ModuleTranslation.{ModuleTranslation}
 use Rattle.init_plan.specs.Views.{OnlyMemoryInitChanges}

@@ -17,7 +17,7 @@ use Rattle.translate.specs.Options.{Options, header_size, startup_by, runs, Plan
 abbrev pub object_size : Options → WasmSubType → ℕ
 object_size o t = fixed_size (gc_layout_of (header_size o.collector) t.composite_type.inner)
 
--- what stands in the context of a module, by the plans of its memories and tables
+-- what is in the context of a module, by the plans of its memories and tables
 abbrev pub context_of : Options → Module → MemoryPlan → TablePlan → VMOffsetsFields ℕ
 context_of o m memory_plan table_plan = record {
   ptr = o.pointer;
@@ -65,7 +65,7 @@ pub record Overflows (o : Options) (m : Module) : Type 0 where
   pub large : HasLargeObject o m memories tables ⊎ (4294967295 < size_of_context o m memories tables)
 
 -- with some plans of its memories and tables, of which all give the same sizes, its runtime data
--- pass no 32 bits, and neither do the sizes
+-- fit in 32 bits, and so do the sizes
 pub record Fits (o : Options) (m : Module) : Type 0 where
   pub memories : MemoryPlan
   pub tables : TablePlan

@@ -22,7 +22,7 @@ most_data i bytes memories = 2 * bytes + memories * (i.max_image + 2 * i.page_si
 pub record CostsAtMost (i : InitOptions) (bytes : List ℕ) (plan : Plan) : Type 0 where
   -- each entry has a byte of the module to itself
   pub entries : entries_of plan.translation ≤ length bytes
-  -- a declared type may have a trampoline's type beside it
+  -- a declared type may have a trampoline's type with it
   pub types : length plan.types.types ≤ 2 * length bytes
   -- each of the runtime data has a byte of the module to itself
   pub data_count : length (memory_plan_of plan.translation).runtime ≤ length bytes

@@ -36,7 +36,7 @@ Finds runtime (Some index) (Some bytes) = slice_get runtime index ≡ Some bytes
 Finds runtime None None = Unit {0}
 Finds runtime found bytes = ⊥
 
--- all but how memories and tables begin, runtime data, what is left to be written, and startup
+-- all but how memories and tables begin, runtime data, what remains to be written, and startup
 abbrev pub OnlyInitChanges : ModuleTranslation → ModuleTranslation → Type 0
 OnlyInitChanges old new = new ≡ record old {
   «module» = record old.module {
@@ -62,17 +62,17 @@ pub record TranslatesRest (i : InitOptions) (bytes : List ℕ) (m : Module) (t :
   -- each defined table has one initial value and one image
   pub counts : AreCounted t
 
--- its memories, and what is left to be written to them
+-- its memories, and what remains to be written to them
 pub record InitialisesMemories (i : InitOptions) (m : Module) (t : ModuleTranslation) : Type 0 where
   -- by the image rule all active segments become images, or all are kept, in order
   pub plan : PlansMemories i m (memory_plan_of t)
   pub segmented : IsSegmented t.module.memory_initialization → (¬ BecomesImages i m) × (t.data_align ≡ None)
   pub imaged : ¬ IsSegmented t.module.memory_initialization → BecomesImages i m × (t.data_align ≡ Some i.page_size)
   pub processed : IsProcessed t.memory_init
-  -- each image is whole pages within its memory, has the contents, and is tight
+  -- each image is complete pages within its memory, has the contents, and is tight
   pub tight : HasTightImages (images i) (length (imported_memories m)) (map image_memory_of (defined_memories m)) (held_segments m)
       (passive_bytes m) (memory_plan_of t)
-  -- the ranges of runtime data stand end to end from 0, those of images from page to page
+  -- the ranges of runtime data are end to end from 0, those of images from page to page
   pub ranges : ranges_of t.module ≡ ranges_from 0 (map length (memory_plan_of t).runtime)
   pub whole_ranges : HasWholeRanges i.page_size (memory_plan_of t).images (ranges_of t.module)
   pub fits : sum_by length (memory_plan_of t).runtime < 2 ^ 32
@@ -89,10 +89,10 @@ pub record IsInitialised (i : InitOptions) (bytes : List ℕ) (m : Module) (t : 
   -- module's initialisers
   pub agrees : AgreesInAll m (plan_of_globals t) (memory_plan_of t) (plan_of_tables t)
   pub memories : InitialisesMemories i m t
-  -- images of tables take the longest prefix of element segments that they may, and the others are
+  -- images of tables hold the longest prefix of element segments that they may, and the others are
   -- kept, in order
   pub tables : PlansTables i m (plan_of_tables t)
-  -- startup runs exactly when something is left to be done; its type comes last
+  -- startup runs exactly when something remains to be done; its type comes last
   pub startup : t.module.startup ≡ startup_with (startup_by m (memory_plan_of t) (plan_of_tables t)) (type_index (length (interned_list m false).types))
 
 -- the bytes spell a module that keeps the listed rules; this is its translation, planned, and the

@@ -24,17 +24,19 @@ use Rattle.translate.specs.Options.{InitOptions, Options, header_size, startup_b
 use Rattle.translate.specs.Contexts.{context_of, HasSizes, Overflows}
 use Rattle.translate.specs.Initialised.{IsInitialised}
 
--- a list of types tells nothing of where mapped types were met
+-- a list of types says nothing of where mapped types were seen
 abbrev pub nothing_met : WasmFuncType → Option TypeIndex
 nothing_met f = None
 
 -- the plan is that of the module
 pub record IsPlanOf (o : Options) (bytes : List ℕ) (m : Module) (plan : Plan) : Type 0 where
-  -- in each phase it gives what the module's initialisers give; all other fields are the module's lists
+  -- in each phase it gives what the module's initialisers give; all other fields are the module's
+  -- lists
   pub translation : IsInitialised o.init bytes m plan.translation
-  -- its types are the interned types of the module, with a startup type exactly where startup may run
+  -- its types are the interned types of the module, with a startup type exactly where startup may
+  -- run
   pub types : SameLists (built_of plan.types nothing_met) (interned_list m (runs (startup_by m (memory_plan_of plan.translation) (plan_of_tables plan.translation))))
-  -- two declared types have one index exactly where they are equal by group and place
+  -- two declared types have one index exactly where they are equal by group and position
   pub equal_types : (i j : ℕ) → i < length (plain.types m) → j < length (plain.types m)
       → (interned_at m i ≡ interned_at m j) ↔ SameType (placed_groups m) (placed_groups m) i j
   -- each type has the layout of its objects

@@ -22,7 +22,7 @@ pub record Commands (words : List (List ℕ)) (P : Command → Type 0) : Type 0 
 
 -- ---- the bytes
 
--- the input of a command: what a source tells, or the module that is made in place of reading one
+-- the input of a command: what a source reports, or the module that is made in place of reading one
 abbrev pub IsInput : Option ℕ → Option (List ℕ) → List ℕ → Type 0
 IsInput None told bytes = told ≡ Some bytes
 IsInput (Some n) told bytes = bytes ≡ generated_module n
@@ -32,7 +32,7 @@ abbrev pub HasWholeInput : Option ℕ → List ℕ → Option (List ℕ) → Typ
 HasWholeInput None bytes left = NothingLeft left
 HasWholeInput (Some n) bytes left = bytes ≡ generated_module n
 
--- the same, or reading came to 2 ^ 30 bytes
+-- the same, or reading reached 2 ^ 30 bytes
 abbrev pub HasEnoughInput : Option ℕ → List ℕ → Option (List ℕ) → Type 0
 HasEnoughInput None bytes left = NothingLeft left ⊎ (length bytes ≡ 2 ^ 30)
 HasEnoughInput (Some n) bytes left = bytes ≡ generated_module n
@@ -72,7 +72,8 @@ module _ (bytes : List ℕ) (left : Option (List ℕ)) (plan : Option Plan) (ref
     -- the sink gained the line of the refusal
     pub printed : IsSomeAnd refusal (λ e. AppendsFront before (text_of_refusal e) after)
 
--- status 4: the sink gained a part of the text of the plan, or of the line of the refusal, whichever is kept
+-- status 4: the sink gained a part of the text of the plan, or of the line of the refusal,
+-- whichever is kept
 abbrev pub IsCutShort : List ℕ → Option (List ℕ) → Option Plan → Option TranslateError → Option (List ℕ) → Option (List ℕ) → Command → Type 0
 IsCutShort bytes left (Some plan) None before after c =
     HasWholeInput c.generate bytes left × IsPlanned (options_of c) bytes plan × AppendsPart before (text_for c.generate bytes plan) after

@@ -20,8 +20,8 @@ use plan::{Plan, TranslateError};
 use plan_text::{plan_text, refusal_line, summary_text};
 use std::alloc::Global;
 
-/// The plan of the bytes, or their refusal, with its text written. The bytes are the whole input of
-/// the command, or 2^30 bytes of it.
+/// The plan of the bytes, or their refusal, with its text written. The bytes are the complete input
+/// of the command, or 2^30 bytes of it.
 pub(crate) fn answer<'d, K: Sink>(
     alloc: Global,
     command: &Command,
@@ -63,7 +63,7 @@ pub(crate) fn answer<'d, K: Sink>(
     }
 }
 
-/// The plan of the bytes and its whole text.
+/// The plan of the bytes and its complete text.
 fn planned_text<'d>(
     alloc: Global,
     command: &Command,
@@ -107,7 +107,8 @@ fn text_of(
     }
 }
 
-/// Writes the text, and answers the status of a text that is written whole, or that of a write that failed.
+/// Writes the text. Returns the status of a text that is written completely, or that of a write
+/// that failed.
 fn write_answer<K: Sink>(sink: &mut K, text: &[u8], status: u8) -> u8
     requires { status < 4 }
     ensures statuses { (result ≡ status) ⊎ (result ≡ 4) }

@@ -20,11 +20,11 @@ use wasm_index::StaticModuleIndex;
 use wasm_types::Tunables;
 
 /// The translation of the module that the bytes spell, with images of its memories and tables, and
-/// with what is left to be written at the start. The builder, which holds no type yet, gets its
+/// with what remains to be written at the start. The builder, which holds no type yet, gets its
 /// types.
 ///
 /// # Errors
-/// Those of the whole call, but for sizes of objects and of the context.
+/// Those of `translate_module`, but for sizes of objects and of the context.
 pub(crate) fn planned_translation<'d>(
     alloc: Global,
     tunables: &Tunables,
@@ -42,7 +42,7 @@ pub(crate) fn planned_translation<'d>(
     ensures too_long { 2 ^ 30 ≤ length bytes.now → result ≡ Err TranslateError.TooLarge }
     ensures complete { CanBeInitialised (init_options tunables.now page_size max_image) bytes.now → SucceedsOrNoMemory result }
 {
-    // What the proof rests on: it does nothing when it is run.
+    // The proof depends on this call, which does nothing when it is run.
     startup_law();
     let index = StaticModuleIndex::from_u32(0);
     let environment = ModuleEnvironment::new(alloc, tunables, validator, types, index)?;

@@ -33,7 +33,8 @@ pub struct Report<'d> {
 }
 
 impl Report<'_> {
-    /// The status. All else is dropped here, so that no crate above has to prove how a plan is dropped.
+    /// The status. All else is dropped here, so that no crate above has to prove how a plan is
+    /// dropped.
     pub fn into_status(self) -> u8
         ensures { result ≡ self.entry.status }
     {
@@ -43,7 +44,7 @@ impl Report<'_> {
 
 /// Reads a module from the source, or makes one, plans it, and writes the text of the plan, the
 /// summary of a module that was made, or the line of the refusal, to the sink. The words are those
-/// after the program's name. The bytes stand in the store, which is empty at first.
+/// after the program's name. The bytes are in the store, which is empty at first.
 pub fn run<'d, S: Source, K: Sink>(
     alloc: Global,
     words: &[String],
@@ -64,12 +65,12 @@ pub fn run<'d, S: Source, K: Sink>(
     ensures refused { result.status ≡ 1 → Commands (map string_bytes words.now)
         (IsRefusal result.bytes.now (S.left source.new) result.plan result.refusal (K.held sink.old) (K.held sink.new)) }
 
-    // No byte is lost: those that were read and those that are left are those at entry. Nothing is
+    // No byte is lost: those that were read and those that remain are those at entry. Nothing is
     // read where a module is made.
     ensures bytes { (command : Command) → Names (map string_bytes words.now) command → IsNone command.generate
         → TellsFront (S.left source.old) result.bytes.now (S.left source.new) }
     ensures made { (command : Command) → Names (map string_bytes words.now) command → IsSome command.generate → source.new ≡ source.old }
-    // A source that does not tell its bytes is read to its end as well, and not past it.
+    // A source that does not report its bytes is read to its end as well, and not past it.
     ensures to_the_end { result.status ≡ 0 → IsNone (S.left source.old) → S.since_end source.old ≡ None →
         Commands (map string_bytes words.now) (λ c. IsNone c.generate → S.since_end source.new ≡ Some 0) }
     ensures not_past { IsNone (S.left source.old) → S.since_end source.old ≡ None → IsNotPassed (S.since_end source.new) }
@@ -106,7 +107,7 @@ pub fn run<'d, S: Source, K: Sink>(
         → (result.status ≡ 0) ⊎ (result.status ≡ 5) }
 
     // Where the bytes that were read, or made, are valid, no refusal is kept, at any status,
-    // whether the source tells its bytes or not.
+    // whether the source reports its bytes or not.
     ensures never_refused { (command : Command) → Names (map string_bytes words.now) command → IsValid (options_of command) result.bytes.now
         → IsNone result.refusal }
 {

@@ -25,7 +25,7 @@ const PLAIN: Tunables = Tunables {
     signals_based_traps: false,
 };
 
-/// A function type of 64 parameters, the last 17 of which tell its number: an i64 for each binary
+/// A function type of 64 parameters, the last 17 of which give its number: an i64 for each binary
 /// digit 1, the lowest first, an i32 for 0.
 fn push_type(bytes: &mut Vec<u8>, number: u32) -> Result<(), AllocError> {
     bytes.extend_from_slice(&[0x60, 0x40])?;

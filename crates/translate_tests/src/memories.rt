@@ -1,4 +1,4 @@
-//! What a compiler asks of a translated memory.
+//! The facts of a translated memory that a compiler needs.
 
 use wasm_types::{IndexType, Limits, Memory, MemoryTunables, Tunables, WasmValType};
 

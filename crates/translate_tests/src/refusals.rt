@@ -1,4 +1,4 @@
-//! The lines of refusals to which no small module comes.
+//! The lines of refusals that no small module reaches.
 
 use plan::TranslateError;
 use plan_text::refusal_line;

@@ -1,4 +1,4 @@
--- What was read, and what was told of it.
+-- What was read, and what was reported of it.
 use Rattle.std.proofs.Common.{◌≡◌, ◌^◌, ◌≤◌, ◌++◌, ℕ, List, length, take, Option, Some, None, IsNone, inl, inr, refl, sym, ap, ◌∙◌}
 use Rattle.std.proofs.lemmas.List.{append-nil, take_all}
 use Rattle.std.proofs.Math.Seq.{take-append_seam}
@@ -10,7 +10,7 @@ use Rattle.translate_tool.specs.Ends.{IsGiven, front_of}
 take_front : (most : ℕ) (bytes rest : List ℕ) → length bytes ≡ most → take most (bytes ++ rest) ≡ bytes
 take_front most bytes rest long = rw (← long) (take-append_seam bytes rest)
 
--- what was read until nothing was left is all that was told
+-- what was read until nothing remained is all that was reported
 pub IsGiven-whole : (made : Option ℕ) (told left : Option (List ℕ)) (bytes : List ℕ) → (IsNone made → TellsFront told bytes left)
     → HasWholeInput made bytes left → IsGiven made told bytes
 IsGiven-whole None (Some told) (Some left) bytes moved none = let e : told ≡ bytes ++ left = moved refl in sym (e ∙ ap (λ rest. bytes ++ rest) none ∙ append-nil bytes)
@@ -18,7 +18,7 @@ IsGiven-whole None (Some told) None bytes moved none = absurd (moved refl)
 IsGiven-whole None None left bytes moved none = tt
 IsGiven-whole (Some n) told left bytes moved made = made
 
--- what was read until nothing was left, or up to 2 ^ 30 bytes, is the front of what was told
+-- what was read until nothing remained, or up to 2 ^ 30 bytes, is the front of what was reported
 pub IsGiven-front : (made : Option ℕ) (told left : Option (List ℕ)) (bytes : List ℕ) → (IsNone made → TellsFront told bytes left)
     → (IsNone made → length bytes ≤ 2 ^ 30) → HasEnoughInput made bytes left → IsGiven made (front_of told) bytes
 IsGiven-front None (Some told) (Some left) bytes moved within (inl none) =

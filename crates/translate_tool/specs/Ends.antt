@@ -11,14 +11,14 @@ use Rattle.translate.specs.Options.{options_of}
 use Rattle.translate.specs.Planned.{IsPlanned}
 use Rattle.translate.specs.Runs.{IsRefused, text_for}
 
--- the input of a command: all that the reader tells, or any bytes where it tells nothing; or the
--- module that is made in place of reading
+-- the input of a command: all that the reader reports, or any bytes where it reports nothing; or
+-- the module that is made in place of reading
 abbrev pub IsGiven : Option ℕ → Option (List ℕ) → List ℕ → Type 0
 IsGiven None (Some told) bytes = bytes ≡ told
 IsGiven None None bytes = ⊤
 IsGiven (Some n) told bytes = bytes ≡ generated_module n
 
--- the first 2 ^ 30 bytes of what is told, or all where they are no more
+-- the first 2 ^ 30 bytes of what is reported, or all where they are no more
 abbrev pub front_of : Option (List ℕ) → Option (List ℕ)
 front_of told = option_map (take (2 ^ 30)) told
 
@@ -43,7 +43,7 @@ module _ (before after : Option (List ℕ)) where
   abbrev pub Gains : List ℕ → Type 0
   Gains text = AppendsFront before text after
 
-  -- the writer gained a part of the text, and not the whole
+  -- the writer gained a part of the text, and not all of it
   abbrev pub GainsPart : List ℕ → Type 0
   GainsPart text = AppendsPart before text after
 

@@ -10,8 +10,10 @@ use devices::{Failed, Sink, Source};
 use std::io::{self, Read, Write};
 use std::marker::{Model, PhantomData};
 
-/// Whether the reader of a source, and the writer of a sink, tell their bytes from the first to the last.
-// A reader that tells nothing may begin to tell, and a source may not. So a source is told what it may say.
+/// Whether the reader of a source, and the writer of a sink, report their bytes from the first to
+/// the last.
+// A reader that reports nothing may begin to report, and a source may not. So this trait says what
+// a source may report.
 pub trait Telling {
     ghost use Rattle.std.specs.Prelude.{Bool};
 
@@ -20,7 +22,7 @@ pub trait Telling {
     ghost writes: { Bool };
 }
 
-/// Neither tells its bytes: the system's reader and writer.
+/// Neither reports its bytes: the system's reader and writer.
 #[derive(Drop)]
 pub struct Untold;
 
@@ -32,7 +34,7 @@ impl Telling for Untold {
     ghost writes = { false };
 }
 
-/// A source over a reader. A contract sees the reader, what it tells, how many reads failed, and
+/// A source over a reader. A contract sees the reader, what it reports, how many reads failed, and
 /// how many came after the end.
 #[derive(Drop)]
 pub struct StdSource<R: Read + Drop, T: Telling> {
@@ -59,7 +61,7 @@ impl<R: Read + Drop, T: Telling> Model for StdSource<R, T> {
 }
 
 impl<R: Read + Drop, T: Telling> StdSource<R, T> {
-    /// A source over a reader that has not failed yet, and has not come to its end.
+    /// A source over a reader that has not failed yet, and has not reached its end.
     pub fn new(reader: R) -> Self
         requires { Tells T.reads (R.remaining reader) }
         ensures { result ≡ record {
@@ -89,12 +91,12 @@ impl<R: Read + Drop, T: Telling> Source for StdSource<R, T> {
         requires { 0 < length buf.old }
         ensures within { IfOk result (λ n. n ≤ length buf.old) }
 
-        // What the reader tells of its bytes moved, or stayed where the read failed.
+        // What the reader reports of its bytes moved, or stayed where the read failed.
         ensures moves { IfOk result (λ n. TellsFront self.old.told (take n buf.new) self.new.told) }
         ensures ends { IfOk result (λ n. n ≡ 0 → NothingLeft self.old.told) }
         ensures stays { OnErr result (self.new.told ≡ self.old.told) }
 
-        // The same of a reader that tells its bytes though the source may not.
+        // The same of a reader that reports its bytes though the source may not.
         ensures consumes { IfOk result (λ n. Consumes (R.remaining self.old.reader) (R.remaining self.new.reader) (take n buf.new)) }
         ensures keeps { OnErr result (Keeps (R.remaining self.old.reader) (R.remaining self.new.reader)) }
 
@@ -110,7 +112,7 @@ impl<R: Read + Drop, T: Telling> Source for StdSource<R, T> {
     }
 }
 
-/// What a call of the system answered; a call that failed is counted.
+/// What a call of the system returned; a call that failed is counted.
 fn outcome_of(answer: io::Result<usize>, faults: &mut u64) -> Result<usize, Failed>
     ensures ok { IfOk result (λ n. (answer ≡ Ok n) × (faults.new ≡ faults.old)) }
     ensures err { OnErr result (IsErr answer × (faults.new ≡ raised_by 1 faults.old)) }
@@ -136,7 +138,7 @@ fn one_more_read(since_end: Option<u64>, moved: usize) -> Option<u64>
     }
 }
 
-/// A sink over a writer. A contract sees the writer, what it tells, and how many writes failed.
+/// A sink over a writer. A contract sees the writer, what it reports, and how many writes failed.
 #[derive(Drop)]
 pub struct StdSink<W: Write + Drop, T: Telling> {
     writer: W,
@@ -178,11 +180,12 @@ impl<W: Write + Drop, T: Telling> Sink for StdSink<W, T> {
         requires { 0 < length piece.now }
         ensures takes { IfOk result (λ n. (0 < n) × (n ≤ length piece.now)) }
 
-        // What the writer tells of its bytes grows by what is taken, and stays where the write failed.
+        // What the writer reports of its bytes grows by what is accepted, and stays where the write
+        // failed.
         ensures appends { IfOk result (λ n. AppendsFront self.old.told (take n piece.now) self.new.told) }
         ensures stays { OnErr result (self.new.told ≡ self.old.told) }
 
-        // The same of a writer that tells its bytes though the sink may not.
+        // The same of a writer that reports its bytes though the sink may not.
         ensures grows { IfOk result (λ n. Appends (W.contents self.old.writer) (W.contents self.new.writer) (take n piece.now)) }
 
         ensures no_fault { OnOk result (self.new.faults ≡ self.old.faults) }
@@ -194,7 +197,7 @@ impl<W: Write + Drop, T: Telling> Sink for StdSink<W, T> {
     }
 }
 
-/// A writer that takes nothing has failed.
+/// A writer that accepts nothing has failed.
 fn some_taken(count: usize) -> io::Result<usize>
     ensures { MatchResult result (λ n. (n ≡ count) × (0 < n)) (λ _. count ≡ 0) }
 {

@@ -33,7 +33,7 @@ use std::{env, io};
 use translate::NO_MEMORY;
 use words::without_name;
 
-/// The status where the system does not give the words, which a run never answers.
+/// The status where the system does not give the words, which a run never returns.
 const NO_WORDS: u8 = 6;
 
 /// The words after the program's name; none where the system does not give them.
@@ -45,8 +45,8 @@ fn words_of(rt: &HostRuntime) -> Option<Result<Vec<String>, AllocError>> {
     }
 }
 
-/// Runs from standard input to standard output, neither of which tells its bytes, and ends with the
-/// status of the run.
+/// Runs from standard input to standard output, neither of which reports its bytes, and ends with
+/// the status of the run.
 fn run_over_standard(rt: &HostRuntime, words: &[String]) -> ExitCode
     ensures statuses { exit_status result ≤ 5 }
     ensures success { exit_status result ≡ 0 → Commands (map string_bytes words.now) (HasPlanned None (Gains None None)) }

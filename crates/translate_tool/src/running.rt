@@ -23,13 +23,13 @@ use translate::{Report, run};
 pub struct Ended<R: Read + Drop, W: Write + Drop, T: Telling> {
     /// What the program ends with.
     pub exit: ExitCode,
-    /// The reader, with what it still tells and how many reads failed.
+    /// The reader, with what it still reports and how many reads failed.
     pub source: StdSource<R, T>,
-    /// The writer, with what it tells and how many writes failed.
+    /// The writer, with what it reports and how many writes failed.
     pub sink: StdSink<W, T>,
 }
 
-/// What the program ends with after a run: its status. A plan is not taken apart, since the system
+/// What the program ends with after a run: its status. A plan is not dropped, since the system
 /// takes back all memory where the program ends.
 fn end_of(report: Report<'_>) -> ExitCode
     ensures { exit_status result ≡ report.entry.status }
@@ -42,8 +42,8 @@ fn end_of(report: Report<'_>) -> ExitCode
 /// Runs from the reader to the writer, once, and ends with the status of the run. The words are
 /// those after the program's name.
 ///
-/// What a reader or a writer tells of its bytes is asked where `T` says that it tells them; of one
-/// that tells nothing, the same is proved of all but the bytes themselves.
+/// What a reader or a writer reports of its bytes is required where `T` says that it reports them;
+/// of one that reports nothing, the same is proved of all but the bytes themselves.
 pub fn run_over<R: Read + Drop, W: Write + Drop, T: Telling>(
     alloc: Global,
     words: &[String],
@@ -59,7 +59,8 @@ pub fn run_over<R: Read + Drop, W: Write + Drop, T: Telling>(
     ensures success { exit_status result.exit ≡ 0 → Commands (map string_bytes words.now)
         (HasPlanned (told_if T.reads (R.remaining reader)) (Gains (told_if T.writes (W.contents writer)) result.sink.told)) }
 
-    // Status 1: they are not valid, and refused with their cause; the writer gained the line of the refusal.
+    // Status 1: they are not valid, and refused with their cause; the writer gained the line of the
+    // refusal.
     ensures refused { exit_status result.exit ≡ 1 → Commands (map string_bytes words.now)
         (HasRefused (told_if T.reads (R.remaining reader)) (Gains (told_if T.writes (W.contents writer)) result.sink.told)) }
 
@@ -87,13 +88,13 @@ pub fn run_over<R: Read + Drop, W: Write + Drop, T: Telling>(
     // Where there is neither a plan nor a refusal, nothing was written.
     ensures nothing { (exit_status result.exit ≡ 2) ⊎ (exit_status result.exit ≡ 3) ⊎ (exit_status result.exit ≡ 5) → result.sink.writer ≡ writer }
 
-    // No byte is lost: at most 2^30 were read, and the others are left. Nothing is read where a
+    // No byte is lost: at most 2^30 were read, and the others remain. Nothing is read where a
     // module is made.
     ensures bytes { (command : Command) → Names (map string_bytes words.now) command → IsNone command.generate
         → (front : List ℕ) × (length front ≤ 2 ^ 30) × TellsFront (told_if T.reads (R.remaining reader)) front result.source.told }
     ensures made { (command : Command) → Names (map string_bytes words.now) command → IsSome command.generate → result.source.reader ≡ reader }
 
-    // A reader that does not tell its bytes is read to its end as well, and not past it.
+    // A reader that does not report its bytes is read to its end as well, and not past it.
     ensures to_the_end { exit_status result.exit ≡ 0 → IsNone (told_if T.reads (R.remaining reader)) →
         Commands (map string_bytes words.now) (λ c. IsNone c.generate → result.source.since_end ≡ Some 0) }
     ensures not_past { IsNone (told_if T.reads (R.remaining reader)) → IsNotPassed result.source.since_end }

@@ -1,4 +1,4 @@
-//! Memories in pages: what a write leaves, and which pages are lent.
+//! Memories in pages: what a write leaves, and which pages are borrowed.
 
 use paged_memory::PagedMemory;
 use std::alloc::{AllocError, Global};
@@ -14,7 +14,7 @@ struct Row {
     shared: u64,
 }
 
-// Each row is written to a memory of pages of four bytes, whose second and third page are lent.
+// Each row is written to a memory of pages of four bytes, whose second and third page are borrowed.
 const ROWS: [Row; 6] = [
     Row {
         at: 5,

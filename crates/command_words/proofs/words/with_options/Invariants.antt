@@ -5,7 +5,7 @@ use Rattle.command_words.specs.Commands.{Chooses}
 use Rattle.command_words.proofs.Reading.{Reads}
 use Rattle.command_words.proofs.words.with_options.Given as goal
 
--- what is named is what is named by the words that are left
+-- what is named is what the remaining words name
 abbrev pub invariant-loop-word : goal.invariant-loop-word
 invariant-loop-word l = record {
   sized : length l.seen ≡ 9;

@@ -3,7 +3,7 @@ use Rattle.module_generator.specs.Spelling.{groups}
 use Rattle.module_generator.proofs.Groups.{Spelled}
 use Rattle.module_generator.proofs.bytes.push_groups.Given as goal
 
--- with the bytes of what is left, the number is written
+-- with the bytes of what remains, the number is written
 abbrev pub invariant-loop-rest : goal.invariant-loop-rest
 invariant-loop-rest l = Spelled l.bytes.items l.top l.rest (l.initial.bytes.items ++ groups l.top 9 l.number)
 

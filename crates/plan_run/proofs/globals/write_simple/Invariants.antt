@@ -6,7 +6,7 @@ use Rattle.init_plan.specs.Held.{simple_global_of}
 use Rattle.plan_run.specs.Values.{values_in, NamesBelow}
 use Rattle.plan_run.proofs.globals.write_simple.Given as goal
 
--- with the values that are left, the globals become what they become of all values
+-- with the values that remain, the globals become what they become of all values
 abbrev pub invariant-loop-index : goal.invariant-loop-index
 invariant-loop-index l = record {
   count : length l.globals.items ≡ length l.fn.globals.items;

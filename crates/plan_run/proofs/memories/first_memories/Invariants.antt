@@ -4,7 +4,7 @@ use Rattle.plan_run.specs.Limits.{page_size_of, own_memories}
 use Rattle.plan_run.specs.Memories.{seen, begun}
 use Rattle.plan_run.proofs.memories.first_memories.Given as goal
 
--- with those that are left, the memories are all
+-- with those that remain, the memories are all
 abbrev pub invariant-loop-i : goal.invariant-loop-i
 invariant-loop-i l = record {
   count : length l.memories.items ≡ l.i;

@@ -9,7 +9,7 @@ use Rattle.plan_tables.specs.Interned.{fields_of, type_rows}
 use Rattle.plan_tables.proofs.Keyed.{flat_keyed, values_keyed}
 use Rattle.plan_tables.proofs.interned.interned_record.Goals as goal
 
--- at the start, all types are left
+-- at the start, all types remain
 pub loop-ty-init : goal.loop-ty-init
 loop-ty-init c =
     let rows : type_rows 0 (map (λ (p : TypeIndex × WasmSubType). p.1) (keyed index_of c.args.types.now.types)) ≡ type_rows 0 c.args.types.now.types

@@ -10,7 +10,7 @@ use Rattle.plan_tables.specs.Layouts.{layout_fields}
 use Rattle.plan_tables.proofs.Keyed.{flat_keyed}
 use Rattle.plan_tables.proofs.layouts.layouts_record.Goals as goal
 
--- at the start, all layouts are left
+-- at the start, all layouts remain
 pub loop-ty-init : goal.loop-ty-init
 loop-ty-init c =
     let whole : flat_map (λ (p : TypeIndex × Option GcLayout). layout_fields p.1) (keyed index_of c.args.layouts.now) ≡ flat_map layout_fields c.args.layouts.now

@@ -6,7 +6,7 @@ use Rattle.wasm_types.specs.declared.entity.EntityIndex.{EntityIndex}
 use Rattle.plan_lines.specs.NameLines.{IsInPool}
 use Rattle.plan_tables.proofs.names.exports_record.Goals as goal
 
--- the names that are left after one
+-- the names that remain after one
 rest_in_pool : (pool : List (List ℕ)) (it rest : List (Atom × EntityIndex)) (x : Atom × EntityIndex) → it ≡ x ∷ rest
     → All (λ export. IsInPool pool export.0) it → All (λ export. IsInPool pool export.0) rest
 rest_in_pool pool it rest x is all = All-tail (λ export. IsInPool pool export.0) x rest (subst (All (λ export. IsInPool pool export.0)) is all)

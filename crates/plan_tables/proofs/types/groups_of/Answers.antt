@@ -10,7 +10,7 @@ use Rattle.plan_tables.specs.Types.{index_range}
 use Rattle.plan_tables.proofs.Keyed.{map_keyed}
 use Rattle.plan_tables.proofs.types.groups_of.Goals as goal
 
--- at the start, all groups are left
+-- at the start, all groups remain
 pub loop-range-init : goal.loop-range-init
 loop-range-init c =
     let whole : map {B = NumberRange} (λ (p : Index ModuleInternedRecGroupSpace × Range TypeIndex). index_range p.1) (keyed index_of c.args.types.now.groups) ≡ map index_range c.args.types.now.groups

@@ -8,7 +8,7 @@ use Rattle.translate.specs.Runs.{IsAnswer}
 use Rattle.translate.proofs.WholeInput.{whole_input}
 use Rattle.translate.proofs.running.run.Goals as goal
 
--- no answer tells of wrong words
+-- no answer reports wrong words
 no_usage : (status : ℕ) → IsAnswer status → status ≡ 2 → ⊥
 no_usage status answer wrong = grind arith
 

@@ -1,4 +1,4 @@
--- What the sink says of each write gives what its trait asks.
+-- The sink's clauses for each write give what its trait requires.
 use Rattle.std.proofs.Common.{Some, ap}
 use Rattle.std.proofs.lemmas.Result.{IfOk-weaker, on_err_weaker}
 use Rattle.devices.proofs.Counters.{Rose-raised}

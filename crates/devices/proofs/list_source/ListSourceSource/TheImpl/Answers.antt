@@ -1,4 +1,4 @@
--- What the source says of each read gives what its trait asks.
+-- The source's clauses for each read give what its trait requires.
 use Rattle.std.proofs.Common.{Some, length, min, ap, arith}
 use Rattle.std.proofs.lemmas.Result.{IfOk-weaker, on_err_weaker}
 use Rattle.devices.proofs.Counters.{Rose-raised}

@@ -1,4 +1,4 @@
--- What the source says of each read gives what its trait asks.
+-- The source's clauses for each read give what its trait requires.
 use Rattle.std.proofs.Common.{◌≤◌, length, min, refl, arith}
 use Rattle.std.proofs.lemmas.List.{nil_from_length}
 use Rattle.devices.proofs.Moves.{front-and-rest}

@@ -4,14 +4,14 @@ use Rattle.plan_lines.specs.Expressions.{hexadecimal}
 use Rattle.plan_lines.proofs.Hexadecimal.{hexadecimal-next}
 use Rattle.plan_lines.proofs.text.Text.push_hexadecimal.Goals as goal
 
--- the first of the digits that were left is written
+-- the first of the digits that remained is written
 pub loop-place-preserved : goal.loop-place-preserved
 loop-place-preserved c =
     let one_more : c.loop-place.place ≡ suc (c.loop-place.place - 1) = omega arith in
     hexadecimal-next _ _ (c.loop-place.place - 1) c.args.number _ c.hexadecimal_digit.ensures c.in_ok-push_byte.ensures
     ∙ rw one_more at c.loop-place.invariant
 
--- no digit is left
+-- no digit remains
 pub returns : goal.returns
 unfolding hexadecimal
 returns c =

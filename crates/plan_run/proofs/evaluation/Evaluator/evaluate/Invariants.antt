@@ -5,7 +5,7 @@ use Rattle.plan_run.specs.Evaluation.{globals_of, fields_of, Grows}
 use Rattle.plan_run.specs.Values.{values_in, terms_of, NamesBelow}
 use Rattle.plan_run.proofs.evaluation.Evaluator.evaluate.Given as goal
 
--- what is left over the stack leaves what all operators leave
+-- what remains leaves on the stack what all operators leave
 abbrev pub invariant-loop-op : goal.invariant-loop-op
 invariant-loop-op l = record {
   grows : Grows l.fn.self l.self;

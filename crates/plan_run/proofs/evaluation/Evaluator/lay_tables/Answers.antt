@@ -11,7 +11,7 @@ use Rattle.plan_run.proofs.OneMore.{tables-on}
 use Rattle.plan_run.proofs.evaluation.Evaluator.lay_tables.Goals.{In_ok-tables}
 use Rattle.plan_run.proofs.evaluation.Evaluator.lay_tables.Goals as goal
 
--- so many tables are laid as the module has
+-- there are as many tables as the module has
 many : (c : In_ok-tables) → length c.in_ok-tables.tables.items ≡ length c.args.self.now.translation.now.«module».tables
 many c = grind (arith, length-map, length-append, tables-planned, length-drop)
 

@@ -5,7 +5,7 @@ use Rattle.plan_run.specs.Memories.{data_piece}
 use Rattle.plan_run.specs.Segments.{left_pieces}
 use Rattle.plan_run.proofs.evaluation.Evaluator.pieces_left.Given as goal
 
--- with those of the segments that are left, the pieces are all
+-- with those of the segments that remain, the pieces are all
 abbrev pub invariant-loop-memory : goal.invariant-loop-memory
 invariant-loop-memory l = let left = left_pieces l.way (place_of l.fn.self) (memory_plan_of l.fn.self.translation.now) in record {
   grows : Grows l.fn.self l.self;

@@ -4,7 +4,7 @@ use Rattle.init_plan.specs.Held.{kept_global_of}
 use Rattle.plan_run.specs.Evaluation.{globals_of, fields_of, IsSound}
 use Rattle.plan_run.proofs.evaluation.Evaluator.write_kept.Given as goal
 
--- with the initialisers that are left, the globals become what they become of all initialisers
+-- with the initialisers that remain, the globals become what they become of all initialisers
 abbrev pub invariant-loop-index : goal.invariant-loop-index
 invariant-loop-index l = let become = kept_written (fields_of l.fn.self) l.imports in record {
   sound : IsSound l.self;
