@@ -221,15 +221,17 @@ typedef struct { const uint8_t *at; size_t len; } bobbinazure_bytes;
 /* A list, and how many items it has. */
 #define BOBBINAZURE_LIST(T) struct { const T *at; size_t len; }
 
-/* From here on embed/generate makes this file, from the records of crates/plan_tables and crates/planner_c. */
+/* embed/generate makes what follows, from the records of plan_tables and planner_c. */
 
 /* What a caller may choose; of a flag 0 is no. */
 typedef struct {
-    /* Whether memories begin as images, where the data segments allow it. A module can then ask for max_image bytes with each memory
-       that it defines, in some fifteen bytes of its own. */
+    /* Whether memories begin as images, where the data segments allow it. A module can then
+       require max_image bytes with each memory that it defines, in some fifteen bytes of its
+       own. */
     uint8_t cow;
-    /* Whether tables begin as images, as far as their elements allow it. A module can then ask for 1,048,576 cells of four bytes with
-       each table that it defines, in ten bytes of its own. */
+    /* Whether tables begin as images, as far as their elements allow it. A module can then
+       require 1,048,576 cells of four bytes with each table that it defines, in ten bytes of its
+       own. */
     uint8_t lazy_tables;
     uint8_t branch_hints; /* Whether hints of branches are read. */
     uint8_t native_debug; /* Whether the names of locals are kept too. */
@@ -256,7 +258,7 @@ typedef struct {
 
 /* Where the parts of a context begin, in bytes. */
 typedef struct {
-    uint32_t size;                 /* The size of the whole context. */
+    uint32_t size;                 /* The size of the complete context. */
     uint32_t imported_memories;    /* The imported memories. */
     uint32_t memories;             /* The pointers to the defined memories. */
     uint32_t owned_memories;       /* The defined memories that are not shared. */
@@ -270,7 +272,8 @@ typedef struct {
     uint32_t func_refs;            /* The references to the functions that escape. */
     uint32_t runtime_data_bases;   /* The pointers to the runtime data. */
     uint32_t runtime_data_lengths; /* The lengths of the runtime data, in bytes. */
-    uint32_t startup_func_ref;     /* The reference to the startup function; BOBBINAZURE_NONE where there is none. */
+    /* The reference to the startup function; BOBBINAZURE_NONE where there is none. */
+    uint32_t startup_func_ref;
 } bobbinazure_context;
 
 /* From one number up to another, the second not included. */
@@ -287,7 +290,9 @@ typedef struct {
 
 /* The type of a value or a field. */
 typedef struct {
-    uint8_t kind;     /* What it is, from BOBBINAZURE_I32 on: 0 to 4 a number or a vector, 5 a reference, 6 and 7 a packed integer. */
+    /* What it is, from BOBBINAZURE_I32 on: 0 to 4 a number or a vector, 5 a reference, 6 and 7 a
+       packed integer. */
+    uint8_t kind;
     uint8_t nullable; /* Whether the reference may be null. */
     uint8_t heap;     /* What the reference is to, from BOBBINAZURE_HEAP_EXTERN on. */
     uint8_t list;     /* Which list the index is of, from BOBBINAZURE_NO_INDEX on. */
@@ -297,7 +302,8 @@ typedef struct {
 /* A memory. */
 typedef struct {
     uint64_t minimum;       /* The least size, in pages. */
-    uint64_t maximum;       /* The greatest size, in pages; BOBBINAZURE_UNBOUNDED where there is none. */
+    /* The greatest size, in pages; BOBBINAZURE_UNBOUNDED where there is none. */
+    uint64_t maximum;
     uint8_t page_size_log2; /* The page size as an exponent of 2: 0 or 16. */
     uint8_t shared;         /* Whether threads may share it. */
     uint8_t wide;           /* Whether addresses have 64 bits. */
@@ -306,7 +312,8 @@ typedef struct {
 /* A table. */
 typedef struct {
     uint64_t minimum;          /* The least size, in cells. */
-    uint64_t maximum;          /* The greatest size, in cells; BOBBINAZURE_UNBOUNDED where there is none. */
+    /* The greatest size, in cells; BOBBINAZURE_UNBOUNDED where there is none. */
+    uint64_t maximum;
     bobbinazure_value element; /* The type of its elements, a reference. */
     uint32_t wide;             /* Whether indices have 64 bits. */
 } bobbinazure_table;
@@ -330,13 +337,16 @@ typedef struct {
     uint64_t offset;  /* Its address in the memory, in bytes. */
 } bobbinazure_image;
 
-/* A data segment that is left to be written. */
+/* A data segment that remains to be written. */
 typedef struct {
     uint32_t memory;  /* The memory that it writes. */
     uint32_t runtime; /* The runtime data that it writes. */
-    /* How offset gives its address, from BOBBINAZURE_AT_BYTE on: 0 as a planned address, 1 as a constant, 2 as a global, 3 not at all. */
+    /* How offset gives its address, from BOBBINAZURE_AT_BYTE on: 0 as a planned address, 1 as a
+       constant, 2 as a global, 3 not at all. */
     uint32_t kind;
-    uint64_t offset;  /* The address in bytes, or the index of the global that holds it; 0 where another expression gives it. */
+    /* The address in bytes, or the index of the global that holds it; 0 where another expression
+       gives it. */
+    uint64_t offset;
 } bobbinazure_segment;
 
 /* A passive data segment that keeps its bytes. */
@@ -345,7 +355,7 @@ typedef struct {
     uint32_t runtime; /* The runtime data that holds its bytes. */
 } bobbinazure_passive;
 
-/* An element segment that is left to be written. */
+/* An element segment that remains to be written. */
 typedef struct {
     uint32_t table;  /* The table that it writes. */
     uint32_t kind;   /* As of a data segment, never 0. */
@@ -355,16 +365,17 @@ typedef struct {
 
 /* The items of an element segment, of which one of the two lists is empty. */
 typedef struct {
-    bobbinazure_value element;    /* The type of each item, a reference. */
-    bobbinazure_span functions;   /* The items that are functions, a part of functions. */
-    bobbinazure_span expressions; /* The items that are constant expressions, a part of the parts of expressions. */
+    bobbinazure_value element;  /* The type of each item, a reference. */
+    bobbinazure_span functions; /* The items that are functions, a part of functions. */
+    /* The items that are constant expressions, a part of the parts of expressions. */
+    bobbinazure_span expressions;
 } bobbinazure_items;
 
 /* Locals of one type. */
 typedef struct {
     uint32_t count; /* How many locals. */
-    /* Their type. A type of the module is named by the type section: list is BOBBINAZURE_OF_SECTION, and heap is
-       BOBBINAZURE_HEAP_DECLARED. */
+    /* Their type. A type of the module is named by the type section: list is
+       BOBBINAZURE_OF_SECTION, and heap is BOBBINAZURE_HEAP_DECLARED. */
     bobbinazure_value value;
 } bobbinazure_locals;
 
@@ -372,9 +383,12 @@ typedef struct {
 typedef struct {
     uint8_t code;   /* Which one, from BOBBINAZURE_I32_CONST on. */
     uint8_t heap;   /* What a null reference is to, from BOBBINAZURE_HEAP_EXTERN on. */
-    uint8_t list;   /* Which list the index of a null reference is of, from BOBBINAZURE_NO_INDEX on. */
+    /* Which list the index of a null reference is of, from BOBBINAZURE_NO_INDEX on. */
+    uint8_t list;
     uint32_t index; /* The global, the function or the type that it names. */
-    uint64_t low;   /* The bits of a constant, of a vector the lower half; of array.new_fixed the number of elements. */
+    /* The bits of a constant, of a vector the lower half; of array.new_fixed the number of
+       elements. */
+    uint64_t low;
     uint64_t high;  /* The upper half of the bits of a vector. */
 } bobbinazure_operator;
 
@@ -393,14 +407,15 @@ typedef struct {
 /* A branch hint. */
 typedef struct {
     uint32_t function; /* The function, by its index. */
-    uint32_t offset;   /* Where the branch stands, in bytes from the begin of the function's body. */
+    /* Where the branch is, in bytes from the beginning of the function's body. */
+    uint32_t offset;
     uint32_t taken;    /* Whether it is likely to be taken. */
 } bobbinazure_branch_hint;
 
 /* Which passive element segment a segment of the module is. */
 typedef struct {
     uint32_t segment; /* Its number in the element section. */
-    uint32_t passive; /* Its number among the passive ones, as of passive_elements. */
+    uint32_t passive; /* Its index among the passive ones, as of passive_elements. */
 } bobbinazure_passive_segment;
 
 /* A passive element segment. */
@@ -427,11 +442,15 @@ typedef struct {
 /* The layout of the objects of an interned type. */
 typedef struct {
     uint32_t type;           /* The interned type. */
-    uint32_t kind;           /* What its objects are, from BOBBINAZURE_ARRAY_OBJECT on: 0 an array, 1 a struct, 2 an exception. */
-    uint32_t size;           /* The size of an object in bytes; of an array, the bytes before its elements. */
+    /* What its objects are, from BOBBINAZURE_ARRAY_OBJECT on: 0 an array, 1 a struct, 2 an
+       exception. */
+    uint32_t kind;
+    /* The size of an object in bytes; of an array, the bytes before its elements. */
+    uint32_t size;
     uint32_t align;          /* The alignment of an object, in bytes. */
     uint32_t element;        /* The bytes of an element of an array. */
-    uint32_t refs;           /* Whether the elements of an array are references that are collected. */
+    /* Whether the elements of an array are references that are collected. */
+    uint32_t refs;
     bobbinazure_span fields; /* Its fields, a part of layout_fields. */
 } bobbinazure_layout;
 
@@ -443,16 +462,22 @@ typedef struct {
 
 /* An interned type. */
 typedef struct {
-    /* What it is, from BOBBINAZURE_ARRAY on: 0 an array, 1 a function, 2 a struct, 3 a continuation, 4 an exception. */
+    /* What it is, from BOBBINAZURE_ARRAY on: 0 an array, 1 a function, 2 a struct, 3 a
+       continuation, 4 an exception. */
     uint8_t kind;
-    uint8_t is_final;        /* Whether it can have no subtypes. */
-    uint8_t shared;          /* Whether threads may share what is of it. */
-    uint8_t supertype_list;  /* Which list the supertype is of, from BOBBINAZURE_NO_INDEX on, which says that there is none. */
-    uint8_t function_list;   /* Which list the function type is of, from BOBBINAZURE_NO_INDEX on, which says that there is none. */
-    uint32_t supertype;      /* The supertype. */
-    uint32_t function;       /* The function type of a continuation or an exception. */
-    bobbinazure_span fields; /* Its fields, or its parameters and then its results: a part of the plan's fields. */
-    size_t results;          /* How many of them are results. */
+    uint8_t is_final;   /* Whether it can have no subtypes. */
+    uint8_t shared;     /* Whether threads may share what is of it. */
+    /* Which list the supertype is of, from BOBBINAZURE_NO_INDEX on, which says that there is
+       none. */
+    uint8_t supertype_list;
+    /* Which list the function type is of, from BOBBINAZURE_NO_INDEX on, which says that there is
+       none. */
+    uint8_t function_list;
+    uint32_t supertype; /* The supertype. */
+    uint32_t function;  /* The function type of a continuation or an exception. */
+    /* Its fields, or its parameters and then its results: a part of the plan's fields. */
+    bobbinazure_span fields;
+    size_t results;     /* How many of them are results. */
 } bobbinazure_type;
 
 /* A field, a parameter or a result. */
@@ -544,18 +569,19 @@ typedef struct {
 
 /* The context of a store. */
 typedef struct {
-    uint32_t size;                         /* Its size. */
-    uint32_t fuel_consumed;                /* The fuel that was consumed. */
-    uint32_t epoch_deadline;               /* The deadline, a number of epochs. */
-    uint32_t stack_limit;                  /* The limit of the stack. */
-    uint32_t gc_heap;                      /* The memory of the collected heap, as memory_definition. */
-    uint32_t last_wasm_exit_trampoline_fp; /* The frame pointer of the last trampoline out of compiled code. */
+    uint32_t size;           /* Its size. */
+    uint32_t fuel_consumed;  /* The fuel that was consumed. */
+    uint32_t epoch_deadline; /* The deadline, a number of epochs. */
+    uint32_t stack_limit;    /* The limit of the stack. */
+    uint32_t gc_heap;        /* The memory of the collected heap, as memory_definition. */
+    /* The frame pointer of the last trampoline out of compiled code. */
+    uint32_t last_wasm_exit_trampoline_fp;
 } bobbinazure_store_context_layout;
 
 /* The part of a context that each module has. */
 typedef struct {
     uint32_t size;              /* Where what depends on the module begins. */
-    uint32_t magic;             /* The number by which a context is known. */
+    uint32_t magic;             /* The number by which a context is recognised. */
     uint32_t store_context;     /* The pointer to the context of the store. */
     uint32_t builtin_functions; /* The pointer to the built-in functions. */
     uint32_t epoch_ptr;         /* The pointer to the current epoch. */
@@ -581,7 +607,9 @@ typedef struct {
 
 /* Bytes that a plan refers to, of the module or made by the plan. */
 typedef struct {
-    uint32_t made;           /* Whether the plan made the bytes; 0 where they are those of the module, which must outlive the plan. */
+    /* Whether the plan made the bytes; 0 where they are those of the module, which must outlive
+       the plan. */
+    uint32_t made;
     bobbinazure_bytes bytes; /* The bytes. */
 } bobbinazure_runtime;
 
@@ -613,7 +641,8 @@ typedef struct {
 
 /* The body of a function. */
 typedef struct {
-    bobbinazure_bytes code;  /* Its code, behind its locals, up to the end of the body: a part of the module's bytes. */
+    /* Its code, behind its locals, up to the end of the body: a part of the module's bytes. */
+    bobbinazure_bytes code;
     bobbinazure_span locals; /* Its locals, a part of locals. */
 } bobbinazure_body;
 
@@ -621,107 +650,151 @@ typedef struct {
 typedef struct {
     /* Why the module is refused, from BOBBINAZURE_MALFORMED on; 0 of a plan. */
     uint32_t refusal;
-    /* Of an invalid module the rule that it breaks, from 1 to 10; of an unsupported one what is not taken, from BOBBINAZURE_COMPONENT
-       on. */
+    /* Of an invalid module the rule that it breaks, from 1 to 10; of an unsupported one what is
+       not supported, from BOBBINAZURE_COMPONENT on. */
     uint32_t refusal_detail;
     /* The line of the refusal, as the program prints it. It is never freed. */
     bobbinazure_bytes refusal_line;
-    bobbinazure_entities entities;                                   /* How many entities there are. */
-    /* When the startup function runs, from BOBBINAZURE_STARTUP_NONE on: never, always, or where a memory does not begin as its image. */
+    bobbinazure_entities entities;                              /* How many entities there are. */
+    /* When the startup function runs, from BOBBINAZURE_STARTUP_NONE on: never, always, or where
+       a memory does not begin as its image. */
     uint32_t startup;
-    uint32_t startup_type;                                           /* The interned type of the startup function; 0 where there is none. */
-    uint32_t images_made;                                            /* Whether memories begin as images. */
-    uint32_t types;                                                  /* How many interned types there are. */
-    uint64_t data_align;                                             /* The alignment of images, in bytes; 0 where there are none. */
+    /* The interned type of the startup function; 0 where there is none. */
+    uint32_t startup_type;
+    /* Whether memories begin as images. */
+    uint32_t images_made;
+    /* How many interned types there are. */
+    uint32_t types;
+    /* The alignment of images, in bytes; 0 where there are none. */
+    uint64_t data_align;
     /* The index of the start function; BOBBINAZURE_NONE where there is none. */
     uint32_t start;
-    uint32_t needs_gc_heap;                                          /* Whether a table can hold references that are collected. */
-    /* How many functions escape, so that a reference to each stands in the context. */
+    /* Whether a table can hold references that are collected. */
+    uint32_t needs_gc_heap;
+    /* How many functions escape, so that the context has a reference to each. */
     uint64_t escaped_functions;
-    /* Where the contents of the code section begin in the module, in bytes; 0 without a code section. */
+    /* Where the contents of the code section begin in the module, in bytes; 0 without a code
+       section. */
     uint64_t code_section_offset;
-    uint64_t module_offset;                                          /* Where the module begins in the bytes that were read. */
+    /* Where the module begins in the bytes that were read. */
+    uint64_t module_offset;
     /* Whether the module has sections of debug information (DWARF), none of which is read. */
     uint32_t has_unparsed_debuginfo;
-    uint32_t pointer;                                                /* The bytes of a pointer of the target: 4 or 8. */
-    bobbinazure_context context;                                     /* Where the parts of the context begin. */
-    BOBBINAZURE_LIST(uint32_t) declared;                             /* The interned type of each type of the type section. */
-    BOBBINAZURE_LIST(bobbinazure_range) groups;                      /* The recursion groups of interned types. */
-    BOBBINAZURE_LIST(uint32_t) functions;                            /* The interned type of each function, imported ones first. */
-    /* The number of each function among those that escape; BOBBINAZURE_NONE of one that does not. */
+    /* The bytes of a pointer of the target: 4 or 8. */
+    uint32_t pointer;
+    /* Where the parts of the context begin. */
+    bobbinazure_context context;
+    /* The interned type of each type of the type section. */
+    BOBBINAZURE_LIST(uint32_t) declared;
+    /* The recursion groups of interned types. */
+    BOBBINAZURE_LIST(bobbinazure_range) groups;
+    /* The interned type of each function, imported ones first. */
+    BOBBINAZURE_LIST(uint32_t) functions;
+    /* The index of each function among those that escape; BOBBINAZURE_NONE of one that does not. */
     BOBBINAZURE_LIST(uint32_t) escapes;
-    BOBBINAZURE_LIST(uint32_t) signatures;                           /* The interned types of the functions that escape, each once. */
-    BOBBINAZURE_LIST(bobbinazure_memory) memories;                   /* The memories, imported ones first, as of the next three. */
+    /* The interned types of the functions that escape, each once. */
+    BOBBINAZURE_LIST(uint32_t) signatures;
+    /* The memories, imported ones first, as of the next three. */
+    BOBBINAZURE_LIST(bobbinazure_memory) memories;
     BOBBINAZURE_LIST(bobbinazure_table) tables;
     BOBBINAZURE_LIST(bobbinazure_global) globals;
     BOBBINAZURE_LIST(bobbinazure_tag) tags;
-    BOBBINAZURE_LIST(bobbinazure_runtime) runtime;                   /* The runtime data: images, and the bytes of segments. */
-    BOBBINAZURE_LIST(bobbinazure_range) runtime_ranges;              /* The range of each runtime data; they stand end to end from 0. */
-    BOBBINAZURE_LIST(bobbinazure_image) images;                      /* The images of memories. */
-    BOBBINAZURE_LIST(bobbinazure_segment) segments;                  /* The data segments that are left to be written, in order. */
-    BOBBINAZURE_LIST(bobbinazure_passive) passive;                   /* The passive data segments that keep their bytes. */
-    BOBBINAZURE_LIST(bobbinazure_span) table_images;                 /* The image of each defined table, a part of the next list. */
+    /* The runtime data: images, and the bytes of segments. */
+    BOBBINAZURE_LIST(bobbinazure_runtime) runtime;
+    /* The range of each runtime data; the ranges are end to end from 0. */
+    BOBBINAZURE_LIST(bobbinazure_range) runtime_ranges;
+    BOBBINAZURE_LIST(bobbinazure_image) images;                 /* The images of memories. */
+    /* The data segments that remain to be written, in order. */
+    BOBBINAZURE_LIST(bobbinazure_segment) segments;
+    /* The passive data segments that keep their bytes. */
+    BOBBINAZURE_LIST(bobbinazure_passive) passive;
+    /* The image of each defined table, a part of the next list. */
+    BOBBINAZURE_LIST(bobbinazure_span) table_images;
     /* Functions by their indices; BOBBINAZURE_NONE for the null reference. */
     BOBBINAZURE_LIST(uint32_t) cells;
-    BOBBINAZURE_LIST(bobbinazure_elements) elements;                 /* The element segments that are left to be written, in order. */
-    BOBBINAZURE_LIST(bobbinazure_region) regions;                    /* The regions of the context, the last one first. */
-    BOBBINAZURE_LIST(bobbinazure_passive_elements) passive_elements; /* The passive element segments, in order. */
-    BOBBINAZURE_LIST(bobbinazure_function_name) function_names;      /* The names of functions. */
-    BOBBINAZURE_LIST(bobbinazure_hints) hints;                       /* The functions that have hints of branches. */
+    /* The element segments that remain to be written, in order. */
+    BOBBINAZURE_LIST(bobbinazure_elements) elements;
+    /* The regions of the context, the last one first. */
+    BOBBINAZURE_LIST(bobbinazure_region) regions;
+    /* The passive element segments, in order. */
+    BOBBINAZURE_LIST(bobbinazure_passive_elements) passive_elements;
+    BOBBINAZURE_LIST(bobbinazure_function_name) function_names; /* The names of functions. */
+    /* The functions that have hints of branches. */
+    BOBBINAZURE_LIST(bobbinazure_hints) hints;
     /* The branch hints, function by function, those of a function in order. */
     BOBBINAZURE_LIST(bobbinazure_branch_hint) branch_hints;
-    BOBBINAZURE_LIST(bobbinazure_passive_segment) passive_segments;  /* The element segments that are passive, in order. */
-    BOBBINAZURE_LIST(bobbinazure_global_value) global_values;        /* The defined globals that begin as a known value. */
-    /* The defined globals that begin as the value of an expression, each by its number among the defined ones. */
+    /* The element segments that are passive, in order. */
+    BOBBINAZURE_LIST(bobbinazure_passive_segment) passive_segments;
+    /* The defined globals that begin as a known value. */
+    BOBBINAZURE_LIST(bobbinazure_global_value) global_values;
+    /* The defined globals that begin as the value of an expression, each by its number among the
+       defined ones. */
     BOBBINAZURE_LIST(uint32_t) expressed_globals;
-    bobbinazure_expressions global_expressions;                      /* Of each of expressed_globals. */
-    /* Of the address of each of segments; no operators where the address is planned. */
+    bobbinazure_expressions global_expressions;                 /* Of each of expressed_globals. */
+    /* Of the offset of each of segments; no operators where the offset is planned. */
     bobbinazure_expressions segment_places;
-    bobbinazure_expressions element_places;                          /* Of the place of each of elements. */
+    /* Of the offset of each of elements. */
+    bobbinazure_expressions element_places;
     /* Of the first value of each defined table; no operators where its cells begin as null. */
     bobbinazure_expressions table_values;
-    BOBBINAZURE_LIST(bobbinazure_import) imports;                    /* The imports, in order. */
-    BOBBINAZURE_LIST(uint8_t) import_names;                          /* The names of imports, end to end, in UTF-8. */
-    BOBBINAZURE_LIST(bobbinazure_export) exports;                    /* The exports, in order. */
-    BOBBINAZURE_LIST(uint8_t) export_names;                          /* The names of exports, end to end, in UTF-8. */
-    BOBBINAZURE_LIST(bobbinazure_span) module_names;                 /* The module's name, if it has one, a part of module_text. */
-    BOBBINAZURE_LIST(bobbinazure_layout) layouts;                    /* The layouts of the objects of interned types that have some. */
-    BOBBINAZURE_LIST(bobbinazure_layout_field) layout_fields;        /* The fields of layouts, end to end. */
-    BOBBINAZURE_LIST(bobbinazure_type) interned;                     /* The interned types. */
-    BOBBINAZURE_LIST(bobbinazure_field) fields;                      /* The fields of interned types, end to end. */
-    BOBBINAZURE_LIST(bobbinazure_trampoline) trampolines;            /* The interned types that have a trampoline, in order. */
-    BOBBINAZURE_LIST(uint8_t) module_text;                           /* The text of the module's name, in UTF-8. */
-    bobbinazure_structs structs;                                     /* The structs that compiled code reads. */
-    bobbinazure_element_items element_items;                         /* Of each of elements. */
-    bobbinazure_element_items passive_items;                         /* Of each of passive_elements. */
-    BOBBINAZURE_LIST(bobbinazure_body) bodies;                       /* The body of each defined function, in order. */
-    BOBBINAZURE_LIST(bobbinazure_locals) locals;                     /* The locals of bodies, end to end, in runs of one type. */
+    BOBBINAZURE_LIST(bobbinazure_import) imports;               /* The imports, in order. */
+    /* The names of imports, end to end, in UTF-8. */
+    BOBBINAZURE_LIST(uint8_t) import_names;
+    BOBBINAZURE_LIST(bobbinazure_export) exports;               /* The exports, in order. */
+    /* The names of exports, end to end, in UTF-8. */
+    BOBBINAZURE_LIST(uint8_t) export_names;
+    /* The module's name, if it has one, a part of module_text. */
+    BOBBINAZURE_LIST(bobbinazure_span) module_names;
+    /* The layouts of the objects of interned types that have some. */
+    BOBBINAZURE_LIST(bobbinazure_layout) layouts;
+    /* The fields of layouts, end to end. */
+    BOBBINAZURE_LIST(bobbinazure_layout_field) layout_fields;
+    BOBBINAZURE_LIST(bobbinazure_type) interned;                /* The interned types. */
+    /* The fields of interned types, end to end. */
+    BOBBINAZURE_LIST(bobbinazure_field) fields;
+    /* The interned types that have a trampoline, in order. */
+    BOBBINAZURE_LIST(bobbinazure_trampoline) trampolines;
+    /* The text of the module's name, in UTF-8. */
+    BOBBINAZURE_LIST(uint8_t) module_text;
+    /* The structs that compiled code reads. */
+    bobbinazure_structs structs;
+    bobbinazure_element_items element_items;                    /* Of each of elements. */
+    bobbinazure_element_items passive_items;                    /* Of each of passive_elements. */
+    /* The body of each defined function, in order. */
+    BOBBINAZURE_LIST(bobbinazure_body) bodies;
+    /* The locals of bodies, end to end, in runs of one type. */
+    BOBBINAZURE_LIST(bobbinazure_locals) locals;
 } bobbinazure_plan;
 
 /* Each list of a plan. */
 #define BOBBINAZURE_LISTS(EACH) \
-    EACH(declared) EACH(groups) EACH(functions) EACH(escapes) EACH(signatures) EACH(memories) EACH(tables) EACH(globals) EACH(tags) \
-    EACH(runtime) EACH(runtime_ranges) EACH(images) EACH(segments) EACH(passive) EACH(table_images) EACH(cells) EACH(elements) \
-    EACH(regions) EACH(passive_elements) EACH(function_names) EACH(hints) EACH(branch_hints) EACH(passive_segments) EACH(global_values) \
-    EACH(expressed_globals) EACH(global_expressions.parts) EACH(global_expressions.operators) EACH(segment_places.parts) \
-    EACH(segment_places.operators) EACH(element_places.parts) EACH(element_places.operators) EACH(table_values.parts) \
-    EACH(table_values.operators) EACH(imports) EACH(import_names) EACH(exports) EACH(export_names) EACH(module_names) EACH(layouts) \
-    EACH(layout_fields) EACH(interned) EACH(fields) EACH(trampolines) EACH(module_text) EACH(element_items.rows) \
-    EACH(element_items.functions) EACH(element_items.expressions.parts) EACH(element_items.expressions.operators) EACH(passive_items.rows) \
-    EACH(passive_items.functions) EACH(passive_items.expressions.parts) EACH(passive_items.expressions.operators) EACH(bodies) \
-    EACH(locals)
+    EACH(declared) EACH(groups) EACH(functions) EACH(escapes) EACH(signatures) EACH(memories) \
+    EACH(tables) EACH(globals) EACH(tags) EACH(runtime) EACH(runtime_ranges) EACH(images) \
+    EACH(segments) EACH(passive) EACH(table_images) EACH(cells) EACH(elements) EACH(regions) \
+    EACH(passive_elements) EACH(function_names) EACH(hints) EACH(branch_hints) \
+    EACH(passive_segments) EACH(global_values) EACH(expressed_globals) \
+    EACH(global_expressions.parts) EACH(global_expressions.operators) EACH(segment_places.parts) \
+    EACH(segment_places.operators) EACH(element_places.parts) EACH(element_places.operators) \
+    EACH(table_values.parts) EACH(table_values.operators) EACH(imports) EACH(import_names) \
+    EACH(exports) EACH(export_names) EACH(module_names) EACH(layouts) EACH(layout_fields) \
+    EACH(interned) EACH(fields) EACH(trampolines) EACH(module_text) EACH(element_items.rows) \
+    EACH(element_items.functions) EACH(element_items.expressions.parts) \
+    EACH(element_items.expressions.operators) EACH(passive_items.rows) \
+    EACH(passive_items.functions) EACH(passive_items.expressions.parts) \
+    EACH(passive_items.expressions.operators) EACH(bodies) EACH(locals)
 
 /* The text of a plan, or the line of a refusal. */
 typedef struct {
     bobbinazure_bytes text; /* In UTF-8, without a zero at the end. */
-    uint32_t made;          /* Whether the text stands in memory of its own, which bobbinazure_text_free gives back. */
+    /* Whether the text is in memory of its own, which bobbinazure_text_free frees. */
+    uint32_t made;
 } bobbinazure_text;
 
 /* What an import is given. */
 typedef struct {
     uint32_t answer;        /* From BOBBINAZURE_GIVEN on: 0 given, 1 missing, 2 a mismatch. */
-    /* Where it is given, the number of the export, from 0 on; of a mismatch the rule that it breaks, from BOBBINAZURE_MISMATCH_KIND on;
-       else 0. */
+    /* Where it is given, the number of the export, from 0 on; of a mismatch the rule that it
+       breaks, from BOBBINAZURE_MISMATCH_KIND on; else 0. */
     uint32_t detail;
     bobbinazure_bytes line; /* The text of a mismatch, else empty. It is never freed. */
 } bobbinazure_import_answer;
@@ -730,13 +803,15 @@ typedef struct {
 typedef struct {
     /* 1 where the first module is refused, 2 where the second is; 0 where both are planned. */
     uint32_t refused;
-    uint32_t refusal;                                    /* Why that module is refused, as of a plan, with the next two. */
+    uint32_t refusal; /* Why that module is refused, as of a plan, with the next two. */
     uint32_t refusal_detail;
-    bobbinazure_bytes refusal_line;                      /* The line of the refusal, as the program prints it. It is never freed. */
-    BOBBINAZURE_LIST(bobbinazure_import_answer) answers; /* The answer to each import of the second module, in order. */
+    /* The line of the refusal, as the program prints it. It is never freed. */
+    bobbinazure_bytes refusal_line;
+    /* The answer to each import of the second module, in order. */
+    BOBBINAZURE_LIST(bobbinazure_import_answer) answers;
 } bobbinazure_link_record;
 
-/* Here ends what embed/generate makes. */
+/* The end of what embed/generate makes. */
 
 /* Plans the module that the bytes spell.
  *
@@ -748,16 +823,19 @@ typedef struct {
  *   REFUSED        its first three fields say why
  *   NO_MEMORY      it has the lists that were made; bobbinazure_plan_free frees them
  *   WRONG_OPTIONS  it is unchanged */
-uint32_t bobbinazure_make_plan(const uint8_t *bytes, size_t len, const bobbinazure_options *options, bobbinazure_plan *plan);
+uint32_t bobbinazure_make_plan(const uint8_t *bytes, size_t len, const bobbinazure_options *options,
+                               bobbinazure_plan *plan);
 
 /* The same plan as text, or the line of the refusal: UTF-8 without a zero at the end.
  *
  * `text` must come from bobbinazure_text_init, and bobbinazure_text_free frees it. It does not point
  * into the bytes of the module. At WRONG_OPTIONS and NO_MEMORY it is unchanged. */
-uint32_t bobbinazure_make_text(const uint8_t *bytes, size_t len, const bobbinazure_options *options, bobbinazure_text *text);
+uint32_t bobbinazure_make_text(const uint8_t *bytes, size_t len, const bobbinazure_options *options,
+                               bobbinazure_text *text);
 
 /* The plan and its text by one call. At NO_MEMORY the text is unchanged. */
-uint32_t bobbinazure_make_plan_and_text(const uint8_t *bytes, size_t len, const bobbinazure_options *options, bobbinazure_plan *plan, bobbinazure_text *text);
+uint32_t bobbinazure_make_plan_and_text(const uint8_t *bytes, size_t len, const bobbinazure_options *options,
+                                        bobbinazure_plan *plan, bobbinazure_text *text);
 
 /* Links the imports of a module, `importer`, to the exports of another, `exporter`.
  *
@@ -770,7 +848,8 @@ uint32_t bobbinazure_make_plan_and_text(const uint8_t *bytes, size_t len, const 
  *   NO_MEMORY      it is unchanged
  *   WRONG_OPTIONS  it is unchanged; so it is where the name is not UTF-8 */
 uint32_t bobbinazure_link(const uint8_t *exporter, size_t exporter_len, const uint8_t *importer, size_t importer_len,
-                          const uint8_t *as_module, size_t as_module_len, const bobbinazure_options *options, bobbinazure_link_record *links);
+                          const uint8_t *as_module, size_t as_module_len, const bobbinazure_options *options,
+                          bobbinazure_link_record *links);
 
 /* The offset in the module of bytes that a plan has from it: the code of a body, a segment, a name. */
 static inline size_t bobbinazure_offset(const uint8_t *module, bobbinazure_bytes part) {
@@ -826,7 +905,8 @@ static inline bobbinazure_link_record bobbinazure_link_init(void) {
 /* Frees what a call filled, and leaves empty lists. A plan that no call filled may be freed too. */
 static inline void bobbinazure_plan_free(bobbinazure_plan *plan) {
     for (size_t i = 0; i < plan->runtime.len; i++)
-        if (plan->runtime.at[i].made && plan->runtime.at[i].bytes.len) free((void *)plan->runtime.at[i].bytes.at);
+        if (plan->runtime.at[i].made && plan->runtime.at[i].bytes.len)
+            free((void *)plan->runtime.at[i].bytes.at);
 #define BOBBINAZURE_FREE(list) if (plan->list.len) free((void *)plan->list.at);
     BOBBINAZURE_LISTS(BOBBINAZURE_FREE)
 #undef BOBBINAZURE_FREE

@@ -1,4 +1,5 @@
-/* The sizes and the offsets of the structs of bobbinazure.h, where pointers have 8 bytes: the library's records have the same. Made by embed/generate. */
+/* The sizes and the offsets of the structs of bobbinazure.h, where pointers have 8 bytes.
+   The library's records have the same. Made by embed/generate. */
 #ifndef BOBBINAZURE_LAYOUT_H
 #define BOBBINAZURE_LAYOUT_H
 
@@ -12,7 +13,8 @@
 #define BOBBINAZURE_ASSERT _Static_assert
 #endif
 #define BOBBINAZURE_SIZE(T, bytes) BOBBINAZURE_ASSERT(sizeof(bobbinazure_##T) == bytes, "the size of " #T)
-#define BOBBINAZURE_AT(T, field, bytes) BOBBINAZURE_ASSERT(offsetof(bobbinazure_##T, field) == bytes, "the offset of " #field " in " #T)
+#define BOBBINAZURE_AT(T, field, bytes) \
+    BOBBINAZURE_ASSERT(offsetof(bobbinazure_##T, field) == bytes, "the offset of " #field " in " #T)
 
 BOBBINAZURE_SIZE(bytes, 16);
 BOBBINAZURE_AT(bytes, at, 0);

@@ -15,7 +15,7 @@ pub const NO_MEMORY: u32 = 5;
 
 /// the bytes are no module by the grammar of the format
 pub const MALFORMED: u32 = 1;
-/// refusal_detail: the first of the ten listed rules that is broken, from 1
+/// refusal_detail: the first of the ten rules that is broken, from 1
 pub const INVALID: u32 = 2;
 /// refusal_detail: a number of the next enum
 pub const UNSUPPORTED: u32 = 3;
@@ -47,7 +47,7 @@ pub const AT_BYTE: u32 = 0;
 pub const AT_CONSTANT: u32 = 1;
 /// offset: the index of the global that holds it
 pub const AT_GLOBAL: u32 = 2;
-/// another expression: its operators are in segment_places or element_places
+/// another one: its operators are in segment_places or element_places
 pub const AT_EXPRESSION: u32 = 3;
 
 // When the startup function must run.
@@ -82,7 +82,7 @@ pub const OF_ENGINE: u32 = 1;
 pub const OF_MODULE: u32 = 2;
 /// of group
 pub const OF_GROUP: u32 = 3;
-/// the type section, whose types `declared` interns: of the locals of bodies alone, as the next
+/// the type section, `declared`: only in locals of bodies, as the next
 pub const OF_SECTION: u32 = 4;
 /// types by ids, which no plan has
 pub const OF_IDS: u32 = 5;
@@ -239,13 +239,13 @@ pub const HEADER_KIND: u32 = 0;
 /// in the header: its type, by the index of the engine
 pub const HEADER_TYPE_INDEX: u32 = 4;
 
-// What an import is answered.
+// The answer to an import: the field `answer`.
 
 /// detail: the number of the export, from 0
 pub const GIVEN: u32 = 0;
 /// no export has its names
 pub const MISSING: u32 = 1;
-/// detail: the first rule that the export breaks, of the next enum; line: its text
+/// detail: the first broken rule, of the next enum; line: its text
 pub const MISMATCH: u32 = 2;
 
 // The rules by which an export matches an import, in the order in which they are checked.

@@ -32,7 +32,7 @@ pub(crate) struct PlanRecord {
     /// Why the module is refused, from [`numbers::MALFORMED`](crate::numbers::MALFORMED) on; 0 of a plan.
     pub(crate) refusal: u32,
     /// Of an invalid module the rule that it breaks, from 1 to 10; of an unsupported one what is
-    /// not taken, from [`numbers::COMPONENT`](crate::numbers::COMPONENT) on.
+    /// not supported, from [`numbers::COMPONENT`](crate::numbers::COMPONENT) on.
     pub(crate) refusal_detail: u32,
     /// The line of the refusal, as the program prints it. It is never freed.
     pub(crate) refusal_line: List<u8>,
@@ -53,9 +53,10 @@ pub(crate) struct PlanRecord {
     pub(crate) start: u32,
     /// Whether a table can hold references that are collected.
     pub(crate) needs_gc_heap: u32,
-    /// How many functions escape, so that a reference to each stands in the context.
+    /// How many functions escape, so that the context has a reference to each.
     pub(crate) escaped_functions: u64,
-    /// Where the contents of the code section begin in the module, in bytes; 0 without a code section.
+    /// Where the contents of the code section begin in the module, in bytes; 0 without a code
+    /// section.
     pub(crate) code_section_offset: u64,
     /// Where the module begins in the bytes that were read.
     pub(crate) module_offset: u64,
@@ -71,7 +72,7 @@ pub(crate) struct PlanRecord {
     pub(crate) groups: List<Range>,
     /// The interned type of each function, imported ones first.
     pub(crate) functions: List<u32>,
-    /// The number of each function among those that escape; `u32::MAX` of one that does not.
+    /// The index of each function among those that escape; `u32::MAX` of one that does not.
     pub(crate) escapes: List<u32>,
     /// The interned types of the functions that escape, each once.
     pub(crate) signatures: List<u32>,
@@ -82,11 +83,11 @@ pub(crate) struct PlanRecord {
     pub(crate) tags: List<Tag>,
     /// The runtime data: images, and the bytes of segments.
     pub(crate) runtime: List<Runtime>,
-    /// The range of each runtime data; they stand end to end from 0.
+    /// The range of each runtime data; the ranges are end to end from 0.
     pub(crate) runtime_ranges: List<Range>,
     /// The images of memories.
     pub(crate) images: List<Image>,
-    /// The data segments that are left to be written, in order.
+    /// The data segments that remain to be written, in order.
     pub(crate) segments: List<Segment>,
     /// The passive data segments that keep their bytes.
     pub(crate) passive: List<Passive>,
@@ -94,7 +95,7 @@ pub(crate) struct PlanRecord {
     pub(crate) table_images: List<Span>,
     /// Functions by their indices; `u32::MAX` for the null reference.
     pub(crate) cells: List<u32>,
-    /// The element segments that are left to be written, in order.
+    /// The element segments that remain to be written, in order.
     pub(crate) elements: List<Elements>,
     /// The regions of the context, the last one first.
     pub(crate) regions: List<Region>,
@@ -115,11 +116,13 @@ pub(crate) struct PlanRecord {
     pub(crate) expressed_globals: List<u32>,
     /// Of each of `expressed_globals`.
     pub(crate) global_expressions: ExpressionsRecord,
-    /// Of the address of each of `segments`; no operators where the address is planned.
+    /// Of the offset of each of `segments`; no operators where the offset is
+    /// planned.
     pub(crate) segment_places: ExpressionsRecord,
-    /// Of the place of each of `elements`.
+    /// Of the offset of each of `elements`.
     pub(crate) element_places: ExpressionsRecord,
-    /// Of the first value of each defined table; no operators where its cells begin as null.
+    /// Of the first value of each defined table; no operators where its cells begin as
+    /// null.
     pub(crate) table_values: ExpressionsRecord,
     /// The imports, in order.
     pub(crate) imports: List<Import>,
@@ -227,7 +230,7 @@ impl PlanRecord {
 pub(crate) struct Text {
     /// In UTF-8, without a zero at the end.
     pub(crate) text: List<u8>,
-    /// Whether the text stands in memory of its own, which `bobbinazure_text_free` gives back.
+    /// Whether the text is in memory of its own, which `bobbinazure_text_free` frees.
     pub(crate) made: u32,
 }
 

@@ -7,11 +7,11 @@ use crate::list::List;
 #[derive(Clone, Copy, Debug, PartialEq, Eq, Hash)]
 pub struct Options {
     /// Whether memories begin as images, where the data segments allow it.
-    /// A module can then ask for `max_image` bytes with each memory that it defines, in some
+    /// A module can then require `max_image` bytes with each memory that it defines, in some
     /// fifteen bytes of its own.
     pub cow: bool,
     /// Whether tables begin as images, as far as their elements allow it.
-    /// A module can then ask for 1,048,576 cells of four bytes with each table that it defines, in
+    /// A module can then require 1,048,576 cells of four bytes with each table that it defines, in
     /// ten bytes of its own.
     pub lazy_tables: bool,
     /// Whether hints of branches are read.
@@ -61,7 +61,7 @@ pub struct Entities {
 #[repr(C)]
 #[derive(Clone, Copy, Debug, PartialEq, Eq, Hash, Default)]
 pub struct Context {
-    /// The size of the whole context.
+    /// The size of the complete context.
     pub size: u32,
     /// The imported memories.
     pub imported_memories: u32,
@@ -192,7 +192,7 @@ pub struct Image {
     pub offset: u64,
 }
 
-/// A data segment that is left to be written.
+/// A data segment that remains to be written.
 #[repr(C)]
 #[derive(Clone, Copy, Debug, PartialEq, Eq, Hash, Default)]
 pub struct Segment {
@@ -203,7 +203,8 @@ pub struct Segment {
     /// How `offset` gives its address, from [`numbers::AT_BYTE`](crate::numbers::AT_BYTE) on: 0 as a planned address, 1 as
     /// a constant, 2 as a global, 3 not at all.
     pub kind: u32,
-    /// The address in bytes, or the index of the global that holds it; 0 where another expression gives it.
+    /// The address in bytes, or the index of the global that holds it; 0 where another expression
+    /// gives it.
     pub offset: u64,
 }
 
@@ -217,7 +218,7 @@ pub struct Passive {
     pub runtime: u32,
 }
 
-/// An element segment that is left to be written.
+/// An element segment that remains to be written.
 #[repr(C)]
 #[derive(Clone, Copy, Debug, PartialEq, Eq, Hash, Default)]
 pub struct Elements {
@@ -266,7 +267,8 @@ pub struct Operator {
     pub list: u8,
     /// The global, the function or the type that it names.
     pub index: u32,
-    /// The bits of a constant, of a vector the lower half; of `array.new_fixed` the number of elements.
+    /// The bits of a constant, of a vector the lower half; of `array.new_fixed` the number of
+    /// elements.
     pub low: u64,
     /// The upper half of the bits of a vector.
     pub high: u64,
@@ -298,7 +300,7 @@ pub struct Hints {
 pub struct BranchHint {
     /// The function, by its index.
     pub function: u32,
-    /// Where the branch stands, in bytes from the begin of the function's body.
+    /// Where the branch is, in bytes from the beginning of the function's body.
     pub offset: u32,
     /// Whether it is likely to be taken.
     pub taken: u32,
@@ -310,7 +312,7 @@ pub struct BranchHint {
 pub struct PassiveSegment {
     /// Its number in the element section.
     pub segment: u32,
-    /// Its number among the passive ones, as of `passive_elements`.
+    /// Its index among the passive ones, as of `passive_elements`.
     pub passive: u32,
 }
 
@@ -356,7 +358,8 @@ pub struct Export {
 pub struct Layout {
     /// The interned type.
     pub ty: u32,
-    /// What its objects are, from [`numbers::ARRAY_OBJECT`](crate::numbers::ARRAY_OBJECT) on: 0 an array, 1 a struct, 2 an exception.
+    /// What its objects are, from [`numbers::ARRAY_OBJECT`](crate::numbers::ARRAY_OBJECT) on: 0 an array, 1 a struct, 2 an
+    /// exception.
     pub kind: u32,
     /// The size of an object in bytes; of an array, the bytes before its elements.
     pub size: u32,
@@ -391,9 +394,11 @@ pub struct Type {
     pub is_final: bool,
     /// Whether threads may share what is of it.
     pub shared: bool,
-    /// Which list the supertype is of, from [`numbers::NO_INDEX`](crate::numbers::NO_INDEX) on, which says that there is none.
+    /// Which list the supertype is of, from [`numbers::NO_INDEX`](crate::numbers::NO_INDEX) on, which says that there is
+    /// none.
     pub supertype_list: u8,
-    /// Which list the function type is of, from [`numbers::NO_INDEX`](crate::numbers::NO_INDEX) on, which says that there is none.
+    /// Which list the function type is of, from [`numbers::NO_INDEX`](crate::numbers::NO_INDEX) on, which says that there is
+    /// none.
     pub function_list: u8,
     /// The supertype.
     pub supertype: u32,
@@ -579,7 +584,7 @@ pub struct StoreContextLayout {
 pub struct StaticContextLayout {
     /// Where what depends on the module begins.
     pub size: u32,
-    /// The number by which a context is known.
+    /// The number by which a context is recognised.
     pub magic: u32,
     /// The pointer to the context of the store.
     pub store_context: u32,
@@ -627,7 +632,8 @@ pub struct Structs {
 #[repr(C)]
 #[derive(Default)]
 pub struct Runtime {
-    /// Whether the plan made the bytes; 0 where they are those of the module, which must outlive the plan.
+    /// Whether the plan made the bytes; 0 where they are those of the module, which must outlive
+    /// the plan.
     pub made: u32,
     /// The bytes.
     pub(crate) bytes: List<u8>,
