@@ -22,7 +22,7 @@ pub fn counts_agree(lists: &Lists<'_, '_>, count: usize) -> bool
 }
 
 /// Whether there is a body for each function that is not imported.
-fn bodies_hold(lists: &Lists<'_, '_>) -> bool
+pub fn bodies_hold(lists: &Lists<'_, '_>) -> bool
     ensures { IsTrue result
         ↔ (length lists.now.spaces.functions.items
         ≡ lists.now.imported_functions + length (flat_map bodies_of_section (source_module lists.now.source))) }
@@ -61,7 +61,8 @@ fn locals_hold(lists: &Lists<'_, '_>) -> bool
     entries_of::<FunctionBody<'_>>(lists.source).all(body_fits)
 }
 
-fn body_fits(body: &FunctionBody<'_>) -> bool
+/// Whether the number of locals of a body has 32 bits.
+pub fn body_fits(body: &FunctionBody<'_>) -> bool
     ensures { IsTrue result ↔ (locals (body_of body.now) ≤ 4294967295) }
 {
     locals_fit(&body.locals)

@@ -29,7 +29,8 @@ fn in_space_hold(lists: &Lists<'_, '_>) -> bool
     entries_of::<Export<'_>>(lists.source).all(|export| is_in_space(lists, export))
 }
 
-fn is_in_space(lists: &Lists<'_, '_>, export: &Export<'_>) -> bool
+/// Whether an export names an entity that exists.
+pub fn is_in_space(lists: &Lists<'_, '_>, export: &Export<'_>) -> bool
     ensures { IsTrue result ↔ IsInSpace (lists_of lists.now) (export_of export.now) }
 {
     (export.index as usize) < space_size(lists, export.kind)

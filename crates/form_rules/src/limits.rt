@@ -30,7 +30,8 @@ fn tables_hold(tables: &[TableType]) -> bool
     tables.iter().all(is_ordered)
 }
 
-fn is_ordered(table: &TableType) -> bool
+/// Whether the maximum of a table, if any, is at least the minimum.
+pub fn is_ordered(table: &TableType) -> bool
     ensures { IsTrue result ↔ IsOrdered table.now }
 {
     match table.maximum {
@@ -45,7 +46,8 @@ fn memories_hold(memories: &[MemoryType]) -> bool
     memories.iter().all(has_limits)
 }
 
-fn has_limits(memory: &MemoryType) -> bool
+/// Whether the limits and the page size of a memory hold.
+pub fn has_limits(memory: &MemoryType) -> bool
     ensures { IsTrue result ↔ HasLimits memory.now }
 {
     let log2 = memory.page_size_log2.unwrap_or(DEFAULT_PAGE_SIZE_LOG2);

@@ -76,7 +76,8 @@ fn imports_refer(types: usize, lists: &Lists<'_, '_>) -> bool
     entries_of::<Import<'_>>(lists.source).all(|import| import_refers(types, &import.ty))
 }
 
-fn import_refers(types: usize, ty: &TypeRef) -> bool
+/// Whether the types that an import names are below a bound.
+pub fn import_refers(types: usize, ty: &TypeRef) -> bool
     ensures { IsTrue result ↔ ImportRefersIn types ty.now }
 {
     match ty {
@@ -95,7 +96,8 @@ fn tables_refer(types: usize, lists: &Lists<'_, '_>) -> bool
     entries_of::<TableDef>(lists.source).all(|table| table_refers(types, table))
 }
 
-fn table_refers(types: usize, table: &TableDef) -> bool
+/// Whether the concrete references of a table are below a bound.
+pub fn table_refers(types: usize, table: &TableDef) -> bool
     ensures { IsTrue result ↔ TableRefersIn types (table_of table.now) }
 {
     if !heap_is_below(types, &table.ty.element_type.heap) {
@@ -152,7 +154,8 @@ fn bodies_refer(types: usize, lists: &Lists<'_, '_>) -> bool
     entries_of::<FunctionBody<'_>>(lists.source).all(|body| body_refers(types, body))
 }
 
-fn body_refers(types: usize, body: &FunctionBody<'_>) -> bool
+/// Whether the concrete references of the locals of a body are below a bound.
+pub fn body_refers(types: usize, body: &FunctionBody<'_>) -> bool
     ensures { IsTrue result ↔ BodyRefersIn types (body_of body.now) }
 {
     body.locals.iter().all(|run| value_is_below(types, &run.1))

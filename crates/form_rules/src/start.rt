@@ -35,7 +35,7 @@ fn section_can_start(lists: &Lists<'_, '_>, section: Section<'_, '_>) -> bool
 }
 
 /// Whether the function exists, and its type has no parameters and no results.
-fn can_start(lists: &Lists<'_, '_>, function: u32) -> bool
+pub fn can_start(lists: &Lists<'_, '_>, function: u32) -> bool
     ensures { IsTrue result ↔ CanStart (lists_of lists.now) function }
 {
     match lists.spaces.functions.get(function as usize) {

@@ -17,7 +17,8 @@ pub fn initialisers_hold(lists: &Lists<'_, '_>) -> bool
     entries_of::<TableDef>(lists.source).all(is_initialised)
 }
 
-fn is_initialised(table: &TableDef) -> bool
+/// Whether a table whose cells cannot be null has an initialiser.
+pub fn is_initialised(table: &TableDef) -> bool
     ensures { IsTrue result ↔ IsInitialised (table_of table.now) }
 {
     table.ty.element_type.nullable || table.init.is_some()

@@ -53,7 +53,8 @@ fn names_function_type(lists: &Lists<'_, '_>, index: u32, known: &mut [bool]) ->
     is_function
 }
 
-fn is_function_at(lists: &Lists<'_, '_>, index: u32) -> bool
+/// Whether a declared function type has this index.
+pub fn is_function_at(lists: &Lists<'_, '_>, index: u32) -> bool
     ensures { IsTrue result ↔ NamesFunctionType (lists_of lists.now) index }
 {
     match lists.kind_at(index) {

@@ -100,7 +100,7 @@ fn supertype_is_below(bound: usize, ty: &SubType) -> bool
 }
 
 /// Whether a type names only types before the end of its group, and has a supertype before itself.
-fn names_below(end: usize, index: usize, ty: &SubType) -> bool
+pub fn names_below(end: usize, index: usize, ty: &SubType) -> bool
     ensures { IsTrue result ↔ NamesBelow (record { type = sub_type_of ty.now; index = index; group_end = end }) }
 {
     kind_is_below(end, &ty.composite) && supertype_is_below(index, ty)

@@ -35,7 +35,7 @@ mod short;
 mod types;
 mod validator;
 
-pub use below::{heap_is_below, value_is_below};
+pub use below::{heap_is_below, names_below, value_is_below};
 pub use continuations::is_function;
 pub use copied::numbering_of_form;
 pub use elements::{CoreTypeIds, RecGroupId};

@@ -96,7 +96,7 @@ fn tables_hold(
 }
 
 /// The initialiser of a table sees the imported globals.
-fn table_holds(
+pub fn table_holds(
     lists: &Lists<'_, '_>,
     defaults: &[bool],
     table: &TableDef,
