@@ -1,0 +1,4 @@
+pub mod Found
+pub mod Kinds
+pub mod Places
+pub mod Texts

@@ -1,0 +1,28 @@
+//! Where and why bytes are refused as a module, for messages of tools.
+//!
+//! `locate` reads again what `form_reader` refused. It finds the first section that is not whole,
+//! and in it the first entry. Accepted modules pay nothing for it.
+//!
+//! ```
+//! if let Some(place) = locate(alloc, bytes)? {
+//!     println!(rt; "byte {}: {place}", place.byte)?; // "element section, entry 3: .."
+//! }
+//! ```
+//!
+//! It takes the time of reading once more, and memory for one entry at a time.
+//!
+//! Read on: `place` has the record and its sentences, `search` the call; `form_reader` reads.
+#![tactic(auto)]
+
+mod contents;
+mod entries;
+mod header;
+mod kind;
+mod numbers;
+mod place;
+mod search;
+mod sections;
+
+pub use kind::SectionKind;
+pub use place::{Fault, Place};
+pub use search::locate;
