@@ -10,8 +10,9 @@ SOURCE = HERE / "source"
 EXAMPLES = HERE.parent / "examples"
 
 # Each list in the order in which its files need one another. The worker's files are run in node too, by the checks.
-WORKER = ["words", "planner", "lines", "reading", "expressions", "places", "externals", "told", "origins", "comparing", "linking", "worker"]
-PAGE = ["words", "asking", "parts", "paging", "memories", "tables", "contexts", "text", "dialogs", "answers", "imports", "comparison", "page"]
+WORKER = ["words", "planner", "lines", "reading", "expressions", "places", "operators", "externals", "told", "rust_names", "cpp_types", "cpp_names", "names"]
+WORKER += ["customs", "items", "contents", "origins", "sources", "comparing", "linking", "worker"]
+PAGE = ["words", "asking", "parts", "paging", "memories", "tables", "contexts", "lists", "text", "dialogs", "answers", "imports", "comparison", "page"]
 
 
 def script_of(names):

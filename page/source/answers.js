@@ -39,8 +39,8 @@ function reasonOf({ kind, rule, what }) {
 // A plan of a module that the page shows.
 function answerOf(plan) {
   const { summary } = plan, { status } = summary;
-  if (status === "planned") return [resultCard(plan), memoriesCard(plan), tablesCard(plan), contextCard(plan), typesCard(plan), textCard(plan)];
-  if (status === "refused") return [refusalCard(plan), textCard(plan)];
+  if (status === "planned") return [resultCard(plan), memoriesCard(plan), tablesCard(plan), contextCard(plan), typesCard(plan), contentsCard(plan), textCard(plan)];
+  if (status === "refused") return [refusalCard(plan), contentsCard(plan), textCard(plan)];
   const why = status === "wrong_options" ? "The options are wrong: the page size of images must be a power of two." : "The browser has no memory for this module.";
   return [card("Result", el("p", { class: "result bad" }, why))];
 }

@@ -69,6 +69,30 @@ class Externals {
     return Array.from(counts, ([name, imports]) => ({ name, imports })).sort((one, other) => other.imports - one.imports);
   }
 
+  // The number of the import that gives an entity.
+  importOf(kind, index) {
+    this.importsOf ??= new Grouped(this.imports, KINDS.length, this.plan.imports.column("kind"));
+    return this.importsOf.of(kind)[index];
+  }
+
+  importWords(kind, index) {
+    const { from, name } = this.import(this.importOf(kind, index));
+    return `imported as “${shortened(from)}” “${shortened(name)}”`;
+  }
+
+  // How an entity is exported, by the first of its names; or null.
+  exportWords(kind, index) {
+    this.exportsOf ??= this.firstExports();
+    const number = this.exportsOf.get(kind * 2 ** 32 + index);
+    return number === undefined ? null : `exported as “${shortened(this.export(number).name)}”`;
+  }
+
+  firstExports() {
+    const kind = this.plan.exports.column("kind"), index = this.plan.exports.column("index"), first = new Map();
+    for (let number = this.exports - 1; number >= 0; number--) first.set(kind(number) * 2 ** 32 + index(number), number);
+    return first;
+  }
+
   // The export under a name, or null: each name has one.
   exportNamed(name) {
     this.byName ??= this.namesOfExports();
@@ -100,10 +124,15 @@ function tableOf({ minimum, maximum, element, wide }, numbers) {
 
 // A value's type in the words of the text.
 function valueWords(value, numbers) {
-  const named = prefix => Object.keys(numbers).filter(name => name.startsWith(prefix));
   if (value.kind !== numbers.ref) return ["i32", "i64", "f32", "f64", "v128", "i8", "i16"].find(name => numbers[name] === value.kind) ?? "?";
-  const heap = named("heap_").find(name => numbers[name] === value.heap)?.slice(5) ?? "?";
-  const words = heap.startsWith("concrete_") ? `${heap.slice(9)} (module ${value.index})` : heap.replace("no_", "no");
+  const words = heapWords(value, numbers);
   if (value.nullable && (words === "func" || words === "extern")) return `${words}ref`;
   return value.nullable ? `(ref null ${words})` : `(ref ${words})`;
+}
+
+// What a reference is to, in the words of the text. The locals of bodies name types by the type section.
+function heapWords({ heap, index }, numbers) {
+  const name = Object.keys(numbers).find(it => it.startsWith("heap_") && numbers[it] === heap)?.slice(5) ?? "?";
+  if (name === "declared") return `declared ${index}`;
+  return name.startsWith("concrete_") ? `${name.slice(9)} (module ${index})` : name.replace("no_", "no");
 }

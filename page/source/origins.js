@@ -78,7 +78,7 @@ class Origins {
   usersOf(index, facts) {
     const functions = this.told.functionsOf.slice(index, 0, MOST), all = this.told.functionsOf.count(index);
     if (!all) return;
-    const words = functions.map(f => spoken(f) + (this.told.functionName(f) ? ` (${this.told.functionName(f)})` : "")).join(", ");
+    const named = f => this.told.contents.names.short(f), words = functions.map(f => spoken(f) + (named(f) ? ` (${named(f)})` : "")).join(", ");
     facts.push({ label: all === 1 ? "function of it" : "functions of it", text: words + (all > MOST ? ` and ${spoken(all - MOST)} more` : "") });
   }
 

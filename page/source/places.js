@@ -227,7 +227,7 @@ class Places {
     this.each(cursor, section, at => {
       const flags = cursor.count();
       if (flags > 7) throw new Stop(at, "no element segment begins with this number");
-      const isActive = (flags & 1) === 0, element = { at, isActive, table: null, constant: null };
+      const isActive = (flags & 1) === 0, element = { at, isActive, isDeclared: (flags & 3) === 3, table: null, constant: null, isExpressed: flags > 3 };
       if (isActive) {
         const place = cursor.at;
         element.table = flags & 2 ? cursor.count() : 0;
@@ -235,18 +235,19 @@ class Places {
         if (!table) this.breaks(9, place, `there is no table ${spoken(element.table)}`);
         element.constant = readExpression(cursor, this, table && (table.isWide ? "i64" : "i32"), this.globals.length);
       }
-      this.readItems(cursor, flags);
+      this.readItems(cursor, flags, element);
       this.elements.push(element);
     });
   }
 
-  readItems(cursor, flags) {
+  readItems(cursor, flags, element) {
     if (flags & 3 && flags < 4) {
       const at = cursor.at;
       if (cursor.byte() !== 0) throw new Stop(at, "00 must come before these functions");
     }
     if (flags > 4) readReferenceType(cursor, this.named);
     const count = cursor.count();
+    Object.assign(element, { count, items: cursor.at });
     for (let i = 0; i < count; i++) {
       const at = cursor.at;
       if (flags >= 4) readExpression(cursor, this, "ref", this.globals.length);

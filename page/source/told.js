@@ -22,7 +22,11 @@ class Told {
   index() {
     this.lines = new Lines(this.status <= this.numbers.refused ? this.answer.text.view : new Uint8Array());
     this.places = new Places(this.module);
-    if (!this.isPlanned) return;
+    if (this.isPlanned) this.indexPlan();
+    this.contents = new Contents(this);
+  }
+
+  indexPlan() {
     this.externals = new Externals(this);
     this.declaredOf = new Grouped(this.plan.declared.length, this.plan.types, i => this.plan.declared.get(i));
     this.functionsOf = new Grouped(this.plan.functions.length, this.plan.types, i => this.plan.functions.get(i));
@@ -39,7 +43,7 @@ class Told {
 
   summary() {
     const { status, name, size, time, plan } = this, memory = this.planner.calls.memory.buffer.byteLength;
-    const base = { status: this.nameOf(["planned", "refused", "wrong_options", "no_memory"], status), name, size, time, memory, lines: this.lines.count };
+    const base = { status: this.nameOf(["planned", "refused", "wrong_options", "no_memory"], status), name, size, time, memory, lines: this.lines.count, lists: this.contents.counts() };
     if (base.status === "refused") return { ...base, refusal: this.refusal() };
     if (!this.isPlanned) return base;
     const regions = plan.regions.slice(0, plan.regions.length).map((region, line) => ({ ...region, name: region.name.text, line })).reverse();
@@ -167,7 +171,7 @@ class Told {
   // Cells of a table's image: functions by their numbers, null where there is none.
   cells(table, from, to) {
     const { begin, len } = this.plan.table_images.get(table - this.plan.entities.imported_tables);
-    const told = (cell, i) => (cell === NONE ? { place: from + i, function: null, name: null } : { place: from + i, function: cell, name: this.functionName(cell) });
+    const told = (cell, i) => (cell === NONE ? { place: from + i, function: null, name: null } : { place: from + i, function: cell, name: this.contents.names.short(cell) });
     return this.plan.cells.slice(begin + from, begin + Math.min(to, len)).map(told);
   }
 
@@ -194,17 +198,10 @@ class Told {
     return line === null ? "" : this.lines.line(line).replace(/^type \d+ /, "");
   }
 
-  // The name of a function that the module's name section gives: its line is found by halves, since the lines go by functions.
+  // The name of a function that the module's name section gives.
   functionName(index) {
-    const found = this.lines.kinds.get("func-name");
-    let low = 0, high = found?.count ?? 0;
-    while (low < high) {
-      const middle = (low + high) >> 1, [, number, name] = /^func-name (\d+) (.*)$/.exec(this.lines.line(found.first + middle));
-      if (Number(number) === index) return unquoted(name);
-      if (Number(number) < index) low = middle + 1;
-      else high = middle;
-    }
-    return null;
+    const { function_names: names } = this.plan, found = indexIn(names, names.column("function"), index);
+    return found === null ? null : utf8.decode(names.get(found).name.view);
   }
 
   // The names under which an entity is imported and exported: the first few.

@@ -63,11 +63,13 @@ const ANSWERS = {
   cells: ({ side, table, from, to }) => sides[side].cells(table, from, to),
   elements: ({ side, from, to }) => sides[side].elements(from, to),
   types: ({ side, from, to }) => sides[side].types(from, to),
+  list: ({ side, list, isBySize, from, to }) => sides[side].contents.lines(list, isBySize, from, to),
+  items: ({ side, index, from, to }) => sides[side].contents.itemsOf(index, from, to),
   lines: ({ side, from, to }) => sides[side].lines.slice(from, to),
   find: ({ side, words, from }) => sides[side].lines.find(words, from),
   bytes: ({ side, of, index, from, to }) => sides[side].bytesOf(of, index, from, to),
   blob: ({ side, of, index }) => sides[side].blobOf(of, index),
-  origin: ({ side, kind, index }) => new Origins(sides[side]).of(kind, index),
+  origin: ({ side, kind, index }) => new Sources(sides[side]).of(kind, index),
 };
 
 // Words for an error: of the planner's memory that found no room, or of a browser that cannot run it.

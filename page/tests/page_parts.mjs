@@ -12,7 +12,7 @@ export function partsOf(page) {
   const text = readFileSync(page, "utf8");
   const part = id => text.match(new RegExp(`<script type="[a-z/]+" id="${id}">([^]*?)</script>`))[1];
   const bytes = id => Buffer.from(part(`module-${id}`), "base64");
-  const script = `(() => {${part("worker-script")}\nreturn { Planner, Told, Origins, Comparison, Linking, Lines, Places, STEPS }; })()`;
+  const script = `(() => {${part("worker-script")}\nreturn { Planner, Told, Origins: Sources, Comparison, Linking, Lines, Places, STEPS, readableName, rustName, cppName, customOf, largestFirst, expressionWords }; })()`;
   return { planner: bytes("planner"), linked: bytes("linked"), overlap: bytes("overlap"), layout: JSON.parse(part("layout")), ...vm.runInThisContext(script, { filename: "worker-script" }) };
 }
 
