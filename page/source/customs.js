@@ -15,7 +15,7 @@ function customOf(bytes) {
   }
 }
 
-const customWords = bytes => shortened(customOf(bytes).words);
+const customWords = bytes => shortened(customOf(bytes).words, 200);
 const joinedFact = (label, text) => (label === "" ? text : `${label}: ${text}`);
 
 const CUSTOMS = {

@@ -19,7 +19,7 @@ const timeWords = ms => (ms < 1000 ? `${ms.toFixed(1)} ms` : `${(ms / 1000).toFi
 const lettersOf = bytes => Array.from(bytes, byte => (byte > 31 && byte < 127 ? String.fromCharCode(byte) : "·")).join("");
 
 // A name may be as long as its module: its first letters, where it is long.
-const shortened = name => (name.length > 80 ? `${name.slice(0, 80)} …` : name);
+const shortened = (name, most = 80) => (name.length > most ? `${name.slice(0, most)} …` : name);
 
 // What is true of something, one after the other.
 const joined = words => words.filter(Boolean).join(", ");

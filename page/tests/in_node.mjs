@@ -4,6 +4,8 @@ import { readFileSync } from "node:fs";
 import { join } from "node:path";
 import { difference, optionsOf, readModules } from "./cases.mjs";
 import { checkImports } from "./imports_in_node.mjs";
+import { checkLists } from "./lists_in_node.mjs";
+import { checkNames } from "./names_in_node.mjs";
 import { compile, partsOf } from "./page_parts.mjs";
 
 export async function checkInNode({ page, root, program, report }) {
@@ -45,6 +47,8 @@ export async function checkInNode({ page, root, program, report }) {
   checkHeap({ parts, compiled, report });
   checkComparison({ parts, told, own, report });
   checkImports({ parts, compiled, told, root, report });
+  checkLists({ parts, told, report });
+  checkNames({ parts, report });
 }
 
 // Lists against the text, in which each has its lines.

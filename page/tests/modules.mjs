@@ -11,7 +11,7 @@ function number(value) {
   }
 }
 
-function unsigned(value) {
+export function unsigned(value) {
   const bytes = [];
   do {
     bytes.push((value % 128) + (value >= 128 ? 128 : 0));
@@ -33,15 +33,15 @@ export function manySegments(count) {
   ]);
 }
 
-const HEADER = [0x00, 0x61, 0x73, 0x6d, 0x01, 0x00, 0x00, 0x00];
+export const HEADER = [0x00, 0x61, 0x73, 0x6d, 0x01, 0x00, 0x00, 0x00];
 const TYPE = [0x01, 0x04, 0x01, 0x60, 0x00, 0x00];
 
-function section(id, parts) {
+export function section(id, parts) {
   const contents = Buffer.concat(parts.map(part => Buffer.from(part)));
   return Buffer.concat([Buffer.from([id, ...unsigned(contents.length)]), contents]);
 }
 
-const name = words => [...unsigned(words.length), ...Buffer.from(words)];
+export const name = words => [...unsigned(words.length), ...Buffer.from(words)];
 
 // A module that exports its one function under so many names.
 export function manyExports(count) {
