@@ -47,7 +47,7 @@ export async function checkInNode({ page, root, program, report }) {
   checkHeap({ parts, compiled, report });
   checkComparison({ parts, told, own, report });
   checkImports({ parts, compiled, told, root, report });
-  checkLists({ parts, told, report });
+  checkLists({ parts, told, root, report });
   checkNames({ parts, report });
 }
 

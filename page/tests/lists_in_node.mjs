@@ -1,4 +1,6 @@
 // The checks of the lists that need no browser. What must come is written down here by the format, or counted from the pieces of a module.
+import { join } from "node:path";
+import { readModules } from "./cases.mjs";
 import { listedModule, manyFunctions, CPP_NAME, RUST_NAME } from "./listed_module.mjs";
 import { manySegments } from "./modules.mjs";
 
@@ -8,7 +10,7 @@ const MANY_FUNCTIONS = 60000, MANY_SEGMENTS = 1000000;
 const exact = value => JSON.stringify(value, (_, it) => (typeof it === "bigint" ? `${it}n` : it));
 const spanOf = ({ bytes: { from, to } }) => [from, to];
 
-export function checkLists({ parts, told, report }) {
+export function checkLists({ parts, told, root, report }) {
   const same = (what, found, wanted) => report(what, () => exact(found) === exact(wanted), [exact(found), exact(wanted)]);
   const linesOf = (it, list, isBySize = false, from = 0, to = Infinity) => it.contents.lines(list, isBySize, from, to);
   checkLinked({ of: told(parts.linked, WORDS), linesOf, same });
@@ -18,6 +20,7 @@ export function checkLists({ parts, told, report }) {
   checkOrder({ parts, told, linesOf, same, report });
   checkBroken({ told, linesOf, same });
   checkMany({ told, linesOf, report });
+  checkCases({ parts, told, root, report });
 }
 
 // The committed example: its sections have lengths of five bytes each.
@@ -116,4 +119,36 @@ function checkMany({ told, linesOf, report }) {
   const functions = timed(manyFunctions(MANY_FUNCTIONS), "functions"), segments = timed(manySegments(MANY_SEGMENTS), "data");
   report(`of ${MANY_FUNCTIONS.toLocaleString("en")} functions the largest and the last come in ${functions.took} s`, () => functions.first.index === 0 && functions.first.size === 4 && functions.end.index === MANY_FUNCTIONS - 1 && functions.end.size === 2);
   report(`of ${MANY_SEGMENTS.toLocaleString("en")} segments the largest and the last come in ${segments.took} s`, () => segments.first.index === 0 && segments.end.index === MANY_SEGMENTS - 1 && segments.end.place === (MANY_SEGMENTS - 1).toLocaleString("en"));
+}
+
+// Of each case that is planned: expressions from the tables against the lines of the text, and items that the script reads against the planner's.
+function checkCases({ parts, told, root, report }) {
+  const wrong = [], counts = { words: 0, items: 0 };
+  for (const { file, name, bytes, words } of readModules(join(root, "crates/plan_cases/data"))) {
+    const it = told(bytes, words.filter(word => word !== "--lazy-tables"));
+    if (!it.isPlanned) continue;
+    for (const [line, list, index, end] of wordsInText(parts, it)) {
+      counts.words++;
+      if (!line.endsWith(` ${end}`)) wrong.push(`${file}: ${name}: ${list} ${index}: “${end}”, and the text has “${line}”`);
+    }
+    for (let i = 0; i < it.places.elements.length; i++) {
+      if (!it.contents.items.source(i)) continue;
+      const ours = it.contents.items.readOnes(i), theirs = it.contents.items.words(i, 0, Infinity), differ = ours.findIndex((item, k) => item !== theirs[k] && item !== "an expression");
+      counts.items += theirs.length;
+      if (ours.length !== theirs.length || differ >= 0) wrong.push(`${file}: ${name}: element segment ${i}: ${ours.slice(0, 9)}; ${theirs.slice(0, 9)}`);
+    }
+  }
+  report(`${counts.words} expressions of plan_cases have the words of the text, and ${counts.items} items are read as the planner has them`, () => counts.words > 100 && counts.items > 100 && wrong.length === 0, wrong);
+}
+
+// Lines of the text, each with the words that the tables have for its end.
+function* wordsInText({ expressionWords }, { plan, lines, numbers, contents }) {
+  const lineOf = (kind, index) => lines.line(lines.lineOf(kind, index));
+  for (let i = 0; i < plan.expressed_globals.length; i++) yield [lineOf("global-expr", i), "global-expr", i, expressionWords(plan.global_expressions, i, numbers)];
+  for (let i = 0; i < plan.elements.length; i++) yield [lineOf("element", i), "element", i, expressionWords(plan.element_places, i, numbers)];
+  for (let i = 0; i < plan.segments.length && !plan.images_made; i++) yield [lineOf("segment", i), "segment", i, expressionWords(plan.segment_places, i, numbers)];
+  for (let i = 0; i < plan.global_values.length; i++) {
+    const value = contents.valueOf(plan.global_values.number(i, "global"));
+    yield [lineOf("global", i), "global", i, typeof value === "string" ? value : String(value)];
+  }
 }
