@@ -52,12 +52,12 @@ class Comparison {
     return this.pairs.slice(from, to).map(([ours, theirs]) => ({ one: ours, other: theirs, words: ours === null ? this.other.typeWords(theirs) : this.one.typeWords(ours) }));
   }
 
-  // The images of each memory that one of them has: where they begin, and where they differ. The first hundred memories are looked at.
+  // The images of each memory that one of them has: where they begin, and where they differ, by address and from the begin of their data on. The first hundred memories are looked at.
   images() {
     const last = Math.min(100, Math.max(this.one.plan.memories.length, this.other.plan.memories.length)), rows = [];
     for (let memory = 0; memory < last; memory++) {
       const [ours, theirs] = [this.one, this.other].map(told => imageOf(told, memory));
-      if (ours || theirs) rows.push({ memory, one: ours && placeWords(ours), other: theirs && placeWords(theirs), ...difference(ours, theirs) });
+      if (ours || theirs) rows.push({ memory, one: ours && placeWords(ours), other: theirs && placeWords(theirs), ...difference(ours, theirs), relative: relativeDifference(ours, theirs) });
     }
     return rows;
   }
@@ -84,15 +84,30 @@ function placeWords({ at, bytes, runtime }) {
   return { at, length: bytes.length, runtime };
 }
 
-// How many bytes differ, and the first of them. Where an image ends the memory has zeros.
+// How many bytes differ, and the first of them. Where an image ends the memory has zeros; where neither is nothing is looked at.
 function difference(ours, theirs) {
-  const images = [ours, theirs].filter(Boolean), from = Math.min(...images.map(it => it.at)), to = Math.max(...images.map(it => it.at + it.bytes.length));
-  const byteAt = (image, place) => (image && place >= image.at && place < image.at + image.bytes.length ? image.bytes[place - image.at] : 0);
+  const ends = [ours, theirs].flatMap(it => (it ? [it.at, it.at + it.bytes.length] : [])).sort((one, other) => one - other);
   let differing = 0, first = null;
-  for (let place = from; place < to; place++) {
-    if (byteAt(ours, place) === byteAt(theirs, place)) continue;
-    differing++;
-    first ??= place;
+  for (let i = 1; i < ends.length; i++) {
+    const [from, to] = [ends[i - 1], ends[i]], [one, other] = [ours, theirs].map(it => (it && it.at <= from && to <= it.at + it.bytes.length ? it.bytes.subarray(from - it.at, to - it.at) : null));
+    for (let k = 0; k < to - from && (one || other); k++) {
+      if ((one ? one[k] : 0) === (other ? other[k] : 0)) continue;
+      differing++;
+      first ??= from + k;
+    }
   }
   return { differing, first };
+}
+
+// An image from its first byte that is not zero on: where its data begin. It begins itself at a page.
+function fromData(image) {
+  const begin = image.bytes.findIndex(byte => byte !== 0);
+  return { begins: begin < 0 ? null : image.at + begin, at: 0, bytes: image.bytes.subarray(Math.max(0, begin)) };
+}
+
+// The same where both are laid so that their data begin at one place: a module that is linked to other addresses has its data elsewhere.
+function relativeDifference(ours, theirs) {
+  if (!ours || !theirs) return null;
+  const [one, other] = [ours, theirs].map(fromData);
+  return { ...difference(one, other), begins: [one.begins, other.begins] };
 }

@@ -39,9 +39,17 @@ function imagesCard({ images }, plans) {
     const words = differing ? `${count(differing, "byte differs", "bytes differ")}, the first at ${spoken(first)}` : "the same bytes";
     return cellOf(words, differing > 0, false);
   };
-  const rows = images.map(it => [`memory ${spoken(it.memory)}`, part(it.one, plans[0]), part(it.other, plans[1]), said(it)]);
-  const columns = ["memory", plans[0].summary.name, plans[1].summary.name, "difference"];
-  return card("Images of both", boxed("images of both", table("images of both", columns, rows)));
+  const rows = images.map(it => [`memory ${spoken(it.memory)}`, part(it.one, plans[0]), part(it.other, plans[1]), said(it), relativeCell(it.relative)]);
+  const columns = ["memory", plans[0].summary.name, plans[1].summary.name, "difference by address", "from where data begin"];
+  const how = "The second difference lays both so that their first bytes that are not zero are at one place.";
+  return card("Images of both", el("p", { class: "soft" }, how), boxed("images of both", table("images of both", columns, rows)));
+}
+
+function relativeCell(relative) {
+  if (!relative) return "";
+  const { differing, first, begins } = relative, [one, other] = begins.map(begin => (begin === null ? "nowhere" : spoken(begin)));
+  const words = differing ? `${count(differing, "byte differs", "bytes differ")}, the first ${spoken(first)} behind the begin` : "the same bytes";
+  return cellOf(`${words}; data begin at ${one === other ? one : `${one} and ${other}`}`, differing > 0, false);
 }
 
 function contextsCard({ regions }, plans) {

@@ -44,7 +44,7 @@ const LISTS = {
   },
 };
 
-const listWords = list => plural(LISTS[list].unit).replace("datas", "data");
+const listWords = list => plural(LISTS[list].unit);
 
 function contentsCard(plan) {
   const { lists } = plan.summary, body = el("div", {}), names = Object.keys(lists);

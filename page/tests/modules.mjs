@@ -1,6 +1,6 @@
 // Modules that the checks make.
 
-function number(value) {
+export function number(value) {
   const bytes = [];
   for (;;) {
     const byte = value & 127;
