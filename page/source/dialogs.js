@@ -57,29 +57,31 @@ function factParts(plan, { text, bytes, line }) {
   return parts;
 }
 
-const ROW = 16, ROWS = 32;
+// Bytes that are shown at a time, and in a row: on a narrow screen eight, so that their letters are in view.
+const SHOWN_BYTES = 512;
+const bytesInRow = () => (matchMedia("(max-width: 560px)").matches ? 8 : 16);
 
-// Bytes in rows of sixteen. `base` is the address of the first; `marked` are the bytes that are meant.
+// Bytes in rows. `base` is the address of the first; `marked` are the bytes that are meant.
 async function showBytes(plan, { of, index = 0, title, base, marked = null }) {
-  const begin = marked ? marked.from - (marked.from % ROW) : 0;
+  const inRow = bytesInRow(), rowOf = place => place - (((place % inRow) + inRow) % inRow), begin = marked ? rowOf(marked.from) : 0;
   const { length, next } = await plan.ask("bytes", { of, index, from: 0, to: 0 });
   let following = next;
   const paging = new Paging({
-    label: title, unit: "byte", count: length, size: ROW * ROWS,
+    label: title, unit: "byte", count: length, size: SHOWN_BYTES,
     load: async (from, to) => {
       const told = await plan.ask("bytes", { of, index, from, to });
       following = told.next;
       return told.bytes;
     },
-    draw: (bytes, from) => boxed("bytes", el("pre", {}, ...hexRows(bytes, from, base, marked))),
+    draw: (bytes, from) => boxed("bytes", el("pre", {}, ...hexRows(bytes, from, base, marked, inRow))),
   });
   const jump = el("input", { type: "text", inputmode: "text", "aria-label": "address to go to, as 4096 or 0x1000", placeholder: "0x1000" });
   const go = event => {
     event.preventDefault();
     const place = Number(jump.value) - base;
-    if (Number.isFinite(place)) paging.show(place - (((place % ROW) + ROW) % ROW));
+    if (Number.isFinite(place)) paging.show(rowOf(place));
   };
-  const forward = () => (following === null ? say("only zeros follow") : paging.show(following - (following % ROW)));
+  const forward = () => (following === null ? say("only zeros follow") : paging.show(rowOf(following)));
   const store = async () => save(await plan.ask("blob", { of, index }), of === "module" ? plan.summary.name : `runtime-${index}.bin`);
   const tools = [jump, el("button", {}, "Go to address"), button("Next that is not zero", forward), button("Save", store)];
   const words = count(length, "byte") + (base ? `, from address ${spoken(base)} on` : "");
@@ -87,16 +89,19 @@ async function showBytes(plan, { of, index = 0, title, base, marked = null }) {
   await paging.show(begin);
 }
 
-function hexRows(bytes, from, base, marked) {
+// Each row has its address, its bytes with a gap after eight, and their letters.
+function hexRows(bytes, from, base, marked, inRow) {
   const isMarked = place => marked && place >= marked.from && place < marked.to, parts = [];
-  for (let row = 0; row < bytes.length; row += ROW) {
+  for (let row = 0; row < bytes.length; row += inRow) {
+    const part = bytes.subarray(row, row + inRow), letters = lettersOf(part), wide = 3 * inRow + (inRow > 8 ? 1 : 0);
     parts.push(`${hexOf(base + from + row, 8)}  `);
-    const part = bytes.subarray(row, row + ROW);
     part.forEach((byte, i) => {
-      const place = from + row + i, pair = hexOf(byte, 2);
-      parts.push(isMarked(place) ? el("mark", {}, pair) : pair, i === 7 ? "  " : " ");
+      const pair = hexOf(byte, 2);
+      parts.push(isMarked(from + row + i) ? el("mark", {}, pair) : pair, i === 7 && inRow > 8 ? "  " : " ");
     });
-    parts.push(" ".repeat(3 * (ROW - part.length) + (part.length <= 7 ? 1 : 0)), ` ${lettersOf(part)}\n`);
+    parts.push(" ".repeat(wide - 3 * part.length - (part.length > 7 && inRow > 8 ? 1 : 0)), " ");
+    [...letters].forEach((letter, i) => parts.push(isMarked(from + row + i) ? el("span", { class: "marked" }, letter) : letter));
+    parts.push("\n");
   }
   return parts;
 }

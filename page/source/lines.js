@@ -38,6 +38,11 @@ class Lines {
     return kinds;
   }
 
+  // The first words of lines, each with how many lines it has and the first of them.
+  told() {
+    return Array.from(this.kinds, ([word, { first, count: lines }]) => ({ word, first, lines }));
+  }
+
   beginsWith(begin, word) {
     for (let i = 0; i < word.length; i++) if (this.bytes[begin + i] !== word[i]) return false;
     return this.bytes[begin + word.length] === 32;

@@ -48,7 +48,7 @@ const listWords = list => plural(LISTS[list].unit);
 
 function contentsCard(plan) {
   const { lists } = plan.summary, body = el("div", {}), names = Object.keys(lists);
-  const choices = names.map(list => button(`${listWords(list)} ${spoken(lists[list])}`, () => choose(list)));
+  const choices = names.map(list => button(count(lists[list], LISTS[list].unit), () => choose(list)));
   const choose = list => {
     chosenList = list;
     choices.forEach((choice, i) => choice.setAttribute("aria-pressed", String(names[i] === list)));

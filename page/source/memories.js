@@ -13,7 +13,7 @@ function listed(plan, { label, unit, count, size = PART, question, words = {}, d
 }
 
 // The source of a part, as a button.
-function originButton(plan, kind, index, words = "Show source", label = `Show source of ${kind} ${index}`) {
+function originButton(plan, kind, index, words = "Show source", label = `Show source of ${kind} ${spoken(index)}`) {
   return button(words, () => showOrigin(plan, kind, index), { "aria-label": label });
 }
 
@@ -53,9 +53,9 @@ function memoryPart(plan, row) {
 
 // The whole memory, and the part that has data where that is small.
 function memoryPictures(plan, { index, span }, bytes) {
-  const pictures = [memoryPicture(plan, index, 0, bytes, `memory ${index}`)];
+  const pictures = [memoryPicture(plan, index, 0, bytes, `memory ${spoken(index)}`)];
   if (!span || span.to - span.from >= bytes / 4) return pictures;
-  const part = memoryPicture(plan, index, span.from, span.to, `the part of memory ${index} that has data`);
+  const part = memoryPicture(plan, index, span.from, span.to, `the part of memory ${spoken(index)} that has data`);
   return [...pictures, el("p", { class: "soft small" }, "the part that has data:"), part];
 }
 
@@ -86,9 +86,9 @@ function columnsOf(kind, shares) {
 }
 
 function spansPart(plan, memory, rows) {
-  const kind = plan.summary.hasImages ? "image" : "segment", label = `${kind}s of memory ${memory.index}`;
+  const kind = plan.summary.hasImages ? "image" : "segment", label = `${kind}s of memory ${spoken(memory.index)}`;
   const row = span => {
-    const base = typeof span.place === "number" ? span.place : 0, title = `bytes of ${kind} ${span.index}`;
+    const base = typeof span.place === "number" ? span.place : 0, title = `bytes of ${kind} ${spoken(span.index)}`;
     const look = [originButton(plan, kind, span.index), " ", bytesButton(plan, span, title, base)];
     return [[keyOf(kind), `${kind} ${spoken(span.index)}`], placeWords(span.place), spoken(span.length), spoken(span.full), el("code", {}, lettersOf(span.preview)), look];
   };
@@ -100,7 +100,7 @@ function passivePart(plan) {
   const { passive } = plan.summary.counts;
   if (!passive) return null;
   const row = it => {
-    const look = [originButton(plan, "passive", it.index), " ", bytesButton(plan, it, `bytes of passive data segment ${it.segment}`, 0)];
+    const look = [originButton(plan, "passive", it.index), " ", bytesButton(plan, it, `bytes of passive data segment ${spoken(it.segment)}`, 0)];
     return [`data segment ${spoken(it.segment)}`, spoken(it.length), spoken(it.full), el("code", {}, lettersOf(it.preview)), look];
   };
   const draw = rows => table("passive segments", ["segment", "#bytes", "#not zero", "first bytes", "more"], rows.map(row));

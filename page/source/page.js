@@ -96,6 +96,7 @@ function optionsChanged() {
   checkOptions();
   byId("command").textContent = commandWords();
   keepAddress();
+  showChosen();
   for (const side of ["one", "other"]) if (sides[side]) planSide(side);
 }
 
@@ -109,7 +110,7 @@ function takeExample(side, example) {
 function take(side, name, blob, example = null) {
   if (side === "other") showOtherSide();
   remember(side, example ? null : name);
-  sides[side] = { name, blob, example, isPlanning: sides[side]?.isPlanning ?? false, plan: null };
+  sides[side] = { name, blob, example, isPlanning: sides[side]?.isPlanning ?? false, plan: null, isNew: true };
   if (side === matching.importer) matching.name = null;
   matching.isStopped = false;
   if (shown !== "comparison") shown = side;
@@ -169,8 +170,26 @@ async function planSide(side) {
   }
 }
 
+// Once a module is there, what it was chosen with is one line. Where options change, it stays as it is.
+function foldControls(side) {
+  const controls = byId("controls");
+  if (sides[side].isNew && controls.open) {
+    const hadKeyboard = controls.contains(document.activeElement);
+    controls.open = false;
+    if (hadKeyboard) controls.querySelector("summary").focus();
+  }
+  sides[side].isNew = false;
+}
+
+function showChosen() {
+  const names = [sides.one, sides.other].filter(Boolean).map(side => side.name);
+  byId("chosen").textContent = names.length ? `${names.join(" and ")}, ${optionWords().join(" ") || "no option"}` : "";
+}
+
 function setPlan(side, summary) {
   sides[side].isPlanning = false;
+  foldControls(side);
+  showChosen();
   sides[side].plan = { summary, side, ask: (question, words) => asking.ask(question, { side, ...words }) };
   byId(`name-${side}`).textContent = summary.name;
   const isRefused = summary.status !== "planned";

@@ -31,11 +31,11 @@ function card(title, ...inside) {
   return el("section", { class: "card", "aria-labelledby": id }, el("h2", { id }, title), ...inside);
 }
 
-// A table with named columns; a column of numbers is named with "#" before it. Each row is a list of nodes and words.
+// A table with named columns; a column of numbers is named with "#" before it, and one of buttons is named "more". Each row is a list of nodes and words.
 function table(caption, columns, rows) {
-  const isNumber = columns.map(name => name.startsWith("#"));
-  const head = el("tr", {}, ...columns.map((name, i) => el("th", { scope: "col", class: isNumber[i] && "n" }, name.replace("#", ""))));
-  const body = rows.map(row => el("tr", {}, ...row.map((it, i) => (it instanceof HTMLTableCellElement ? it : el("td", { class: isNumber[i] && "n" }, ...[it].flat())))));
+  const classes = columns.map(name => (name.startsWith("#") ? "n" : name === "more" && "more"));
+  const head = el("tr", {}, ...columns.map((name, i) => el("th", { scope: "col", class: classes[i] }, name.replace("#", ""))));
+  const body = rows.map(row => el("tr", {}, ...row.map((it, i) => (it instanceof HTMLTableCellElement ? it : el("td", { class: classes[i] }, ...[it].flat())))));
   return el("table", {}, el("caption", { class: "unseen" }, caption), el("thead", {}, head), el("tbody", {}, ...body));
 }
 

@@ -15,7 +15,7 @@ function tablePart(plan, row) {
   const draw = cells => el("ol", { class: "cells", start: cells[0]?.place ?? 0 }, ...cells.map(cellPart));
   part.append(
     el("p", {}, `It begins as an image of ${count(row.cells, "cell")}, with ${count(row.full, "function")}:`),
-    listed(plan, { label: `cells of table ${row.index}`, unit: "cell", count: row.cells, size: 250, question: "cells", words: { table: row.index }, draw }),
+    listed(plan, { label: `cells of table ${spoken(row.index)}`, unit: "cell", count: row.cells, size: 250, question: "cells", words: { table: row.index }, draw }),
   );
   return part;
 }

@@ -31,7 +31,7 @@ function textCard(plan) {
     say(words);
   };
   paging.show(1);
-  return card(`Text: ${count(lines, "line")}`, textTools(plan, name, { next: () => (chosen === null ? 0 : chosen + 1), show }), box);
+  return card(`Text: ${count(lines, "line")}`, textTools(plan, name, { next: () => (chosen === null ? 0 : chosen + 1), show }), legendPart(plan), box);
 }
 
 // Finding, copying and saving. Words are looked for from the line `next()` on, and `show` shows a line. The keyboard stays where it is, so that

@@ -43,7 +43,7 @@ class Told {
 
   summary() {
     const { status, name, size, time, plan } = this, memory = this.planner.calls.memory.buffer.byteLength;
-    const base = { status: this.nameOf(["planned", "refused", "wrong_options", "no_memory"], status), name, size, time, memory, lines: this.lines.count, lists: this.contents.counts() };
+    const base = { status: this.nameOf(["planned", "refused", "wrong_options", "no_memory"], status), name, size, time, memory, lines: this.lines.count, kinds: this.lines.told(), lists: this.contents.counts() };
     if (base.status === "refused") return { ...base, refusal: this.refusal() };
     if (!this.isPlanned) return base;
     const regions = plan.regions.slice(0, plan.regions.length).map((region, line) => ({ ...region, name: region.name.text, line })).reverse();

@@ -8,12 +8,12 @@ const hexOf = (number, digits = 1) => number.toString(16).toUpperCase().padStart
 
 function sizeWords(bytes) {
   for (const [unit, name] of [[2 ** 40, "TiB"], [2 ** 30, "GiB"], [2 ** 20, "MiB"], [2 ** 10, "KiB"]]) {
-    if (bytes >= unit) return `${(bytes / unit).toFixed(1).replace(/\.0$/, "")} ${name}`;
+    if (bytes >= unit) return `${(bytes / unit).toLocaleString("en", { maximumFractionDigits: 1 })} ${name}`;
   }
   return count(bytes, "byte");
 }
 
-const timeWords = ms => (ms < 1000 ? `${ms.toFixed(1)} ms` : `${(ms / 1000).toFixed(2)} s`);
+const timeWords = ms => (ms < 1000 ? `${ms.toFixed(1)} ms` : `${(ms / 1000).toLocaleString("en", { minimumFractionDigits: 2, maximumFractionDigits: 2 })} s`);
 
 // Bytes as letters, with a dot for what is none.
 const lettersOf = bytes => Array.from(bytes, byte => (byte > 31 && byte < 127 ? String.fromCharCode(byte) : "·")).join("");

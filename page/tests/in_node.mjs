@@ -3,10 +3,11 @@ import { spawnSync } from "node:child_process";
 import { readFileSync } from "node:fs";
 import { join } from "node:path";
 import { difference, optionsOf, readModules } from "./cases.mjs";
+import { checkDrawn } from "./drawn_in_node.mjs";
 import { checkImports } from "./imports_in_node.mjs";
 import { checkLists } from "./lists_in_node.mjs";
 import { checkNames } from "./names_in_node.mjs";
-import { number, section, unsigned } from "./modules.mjs";
+import { movedData } from "./modules.mjs";
 import { compile, partsOf } from "./page_parts.mjs";
 
 export async function checkInNode({ page, root, program, report }) {
@@ -50,6 +51,7 @@ export async function checkInNode({ page, root, program, report }) {
   checkImports({ parts, compiled, told, root, report });
   checkLists({ parts, told, root, report });
   checkNames({ parts, report });
+  await checkDrawn({ page, root, compiled, report });
 }
 
 // Lists against the text, in which each has its lines.
@@ -84,24 +86,19 @@ function checkComparison({ parts, told, own, report }) {
   report("types that two modules share are spelled alike", () => rows.length > 0 && rows.every(row => row.words.replace(/ trampoline \d+$/, "") === words(row.other)));
 }
 
-// A module whose memory has this data at this address, and some of it differs in two bytes.
-const withData = (at, data) => Buffer.concat([
-  Buffer.from("0061736d01000000" + "0503010014", "hex"), section(11, [unsigned(1), [0x00, 0x41, ...number(at), 0x0b], unsigned(data.length), data]),
-]);
-
 // The same data at another address: by address all of it differs, and from where it begins none.
 function checkMoved({ parts, told, report }) {
   const data = Buffer.from("0102030405060708090a", "hex"), changed = Buffer.from(data);
   changed[4] = changed[9] = 0xff;
   const compared = (one, other) => new parts.Comparison(told(one, ["--cow"]), told(other, ["--cow"])).images()[0];
-  const moved = compared(withData(1024, data), withData(1048576, data)), { differing, begins } = moved.relative;
+  const moved = compared(movedData(1024, data), movedData(1048576, data)), { differing, begins } = moved.relative;
   report("data that is moved differs by address, and not from where it begins", () => moved.differing === 20 && moved.first === 1024 && differing === 0 && begins.join() === "1024,1048576", [JSON.stringify(moved)]);
-  const other = compared(withData(1024, data), withData(65536, changed)).relative;
+  const other = compared(movedData(1024, data), movedData(65536, changed)).relative;
   report("data that is moved and changed differs where it is changed", () => other.differing === 2 && other.first === 4, [JSON.stringify(other)]);
-  const same = compared(withData(1024, data), withData(1024, changed));
+  const same = compared(movedData(1024, data), movedData(1024, changed));
   report("data in place differs by address as from where it begins", () => same.differing === 2 && same.first === 1028 && same.relative.differing === 2 && same.relative.first === 4, [JSON.stringify(same)]);
-  const far = compared(withData(16, data), withData(20 * 65536 - 10, data));
+  const far = compared(movedData(16, data), movedData(20 * 65536 - 10, data));
   report("of data that is far apart only what is written is looked at", () => far.differing === 20 && far.relative.differing === 0, [JSON.stringify(far)]);
-  const empty = compared(withData(1024, data), withData(1024, Buffer.alloc(0)));
+  const empty = compared(movedData(1024, data), movedData(1024, Buffer.alloc(0)));
   report("a memory without an image is compared by address alone", () => empty.differing === 10 && empty.relative === null, [JSON.stringify(empty)]);
 }

@@ -1,6 +1,6 @@
 // Modules that the checks make.
 
-export function number(value) {
+function number(value) {
   const bytes = [];
   for (;;) {
     const byte = value & 127;
@@ -53,4 +53,9 @@ export function manyExports(count) {
 export function manyImports(count) {
   const each = Array.from({ length: count }, (_, i) => [...name("m"), ...name(`f${i}`), 0x00, 0x00]);
   return Buffer.concat([Buffer.from([...HEADER, ...TYPE]), section(2, [unsigned(count), ...each])]);
+}
+
+// A module whose memory has this data at this address.
+export function movedData(at, data) {
+  return Buffer.concat([Buffer.from([...HEADER, 0x05, 0x03, 0x01, 0x00, 0x14]), section(11, [unsigned(1), [0x00, 0x41, ...number(at), 0x0b], unsigned(data.length), data])]);
 }

@@ -5,6 +5,8 @@ import vm from "node:vm";
 const VOID = ["meta", "input", "link", "br"];
 
 class SmallElement {
+  static focused = null;
+
   constructor(name) {
     Object.assign(this, { localName: name, attributes: new Map(), childNodes: [], parentElement: null, style: {}, dataset: {}, open: false, disabled: false });
     this.value = "";
@@ -67,7 +69,8 @@ class SmallElement {
   querySelectorAll = selector => [...this.all()].filter(it => it.matches(selector));
   querySelector = selector => this.querySelectorAll(selector)[0] ?? null;
   closest(selector) { return this.matches(selector) ? this : this.parentElement?.closest(selector) ?? null; }
-  focus() { this.isFocused = true; }
+  contains(it) { return it === this || [...this.all()].includes(it); }
+  focus() { SmallElement.focused = this; }
   scrollIntoView() {}
   addEventListener() {}
   showModal() { this.open = true; }
@@ -110,7 +113,7 @@ export function openedPage(page, compile, { isNarrow = false, stored = {} } = {}
   const holder = id => scripts[id] === undefined ? null : holders.get(id) ?? holders.set(id, { textContent: scripts[id] }).get(id);
   const document = {
     getElementById: byId, createElement: name => new SmallElement(name), createElementNS: (_, name) => new SmallElement(name), body: root, documentElement: root,
-    querySelector: root.querySelector, querySelectorAll: root.querySelectorAll,
+    querySelector: root.querySelector, querySelectorAll: root.querySelectorAll, get activeElement() { return SmallElement.focused; },
   };
   const shared = { console, performance, setTimeout, clearTimeout, setInterval: () => 0, clearInterval() {}, TextDecoder, TextEncoder, Blob, atob, URLSearchParams, Uint8Array };
   const worker = class {
