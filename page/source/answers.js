@@ -40,7 +40,7 @@ function reasonOf({ kind, rule, what }) {
 function answerOf(plan) {
   const { summary } = plan, { status } = summary;
   if (status === "planned") return [resultCard(plan), memoriesCard(plan), tablesCard(plan), contextCard(plan), typesCard(plan), contentsCard(plan), textCard(plan)];
-  if (status === "refused") return [refusalCard(plan), contentsCard(plan), textCard(plan)];
+  if (status === "refused") return [refusalCard(plan), ...(summary.lists.sections ? [contentsCard(plan)] : []), textCard(plan)];
   const why = status === "wrong_options" ? "The options are wrong: the page size of images must be a power of two." : "The browser has no memory for this module.";
   return [card("Result", el("p", { class: "result bad" }, why))];
 }
@@ -88,7 +88,7 @@ function resultCard(plan) {
   return card(
     "Result: planned",
     el("p", { class: "result" }, ...result),
-    el("p", { class: "soft" }, "Function bodies are not validated."),
+    el("p", { class: "soft" }, "What the planner says is proved; by each list it is said what this page’s script adds. Function bodies are not validated."),
     el("dl", { class: "facts" }, ...factsOf(summary).map(factPart)),
     el("p", {}, more.filter(Boolean).join(" "), " ", startup),
   );

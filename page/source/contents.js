@@ -49,8 +49,8 @@ class Contents {
 
   // Where the bytes of a line are. What is imported has those of its import, which are no part of its own.
   bytes = {
-    sections: index => this.places.sections[index],
-    customs: index => this.places.sections[this.customSections[index]],
+    sections: index => this.sectionBytes(index),
+    customs: index => this.sectionBytes(this.customSections[index]),
     imports: index => this.places.spanOf(this.places.importStarts, index, 2),
     exports: index => this.places.spanOf(this.places.exportStarts, index, 7),
     functions: index => (index < this.plan.entities.imported_functions ? this.ofImport(0, index) : this.bodies.body(index - this.plan.entities.imported_functions)),
@@ -58,6 +58,12 @@ class Contents {
     elements: index => this.spanAmong(this.places.elements, index, 9),
     data: index => ({ from: this.places.data[index].begin, to: this.places.data[index].begin + this.places.data[index].length }),
   };
+
+  // As far as the file goes: the last section of a refused module may say that it is longer.
+  sectionBytes(index) {
+    const { from, to } = this.places.sections[index];
+    return { from, to: Math.min(to, this.module.length) };
+  }
 
   ofImport(kind, index) {
     return { ...this.bytes.imports(this.told.externals.importOf(kind, index)), isElsewhere: true };
@@ -69,7 +75,7 @@ class Contents {
 
   sections(index) {
     const { id, name, title, count, begin, to } = this.places.sections[index];
-    return { id, name, title: title === undefined ? null : shortened(title), count, contents: to - begin };
+    return { id, name, title: title === undefined ? null : shortened(title), count, contents: to - begin, isCut: to > this.module.length };
   }
 
   customs(index) {

@@ -1,7 +1,8 @@
 // The types and expressions of names that a compiler of C++ made: what `cpp_names.js` reads names of.
 
-// Packs and references back may double a name again and again, so there is an end.
-const MOST_WORDS = 20000;
+// Packs and references back may double a name again and again, so there is an end: of the parts that are made, and of the letters of one.
+const MOST_PARTS = 3000;
+const MOST_LETTERS = 4000;
 
 class CppTypes {
   constructor(words) {
@@ -41,9 +42,9 @@ class CppTypes {
     return `${isNegative ? "-" : ""}${this.words.slice(from, this.at)}`;
   }
 
-  // Words that were made; there is an end of them.
+  // A part that was made; there is an end of them.
   made(node) {
-    if (++this.steps > MOST_WORDS || node.left.length + node.right.length > MOST_WORDS) this.fail();
+    if (++this.steps > MOST_PARTS || node.left.length + node.right.length > MOST_LETTERS) this.fail();
     return node;
   }
 
@@ -263,8 +264,8 @@ class CppTypes {
   // The words of an argument or type: of a pack all of them.
   expanded(type) {
     if (type.pack) return type.pack.flatMap(it => this.expanded(it));
-    if (!type.pattern) return [textOf(type())];
-    const words = [], pack = { index: 0, length: null }, make = () => textOf(this.within({ pack }, type.pattern));
+    if (!type.pattern) return [textOf(this.made(type()))];
+    const words = [], pack = { index: 0, length: null }, make = () => textOf(this.made(this.within({ pack }, type.pattern)));
     const first = make();
     if (pack.length === null) return [`${first}...`];
     for (; pack.index < pack.length; pack.index++) words.push(make());

@@ -38,7 +38,8 @@ async function showOrigin(plan, kind, index) {
   const list = el("dl", { class: "origin" });
   for (const fact of facts) list.append(el("dt", {}, fact.label), el("dd", {}, ...factParts(plan, fact)));
   const more = runtime === undefined ? [] : [el("p", {}, button("Show the bytes that it writes", () => showBytes(plan, { of: "runtime", index: runtime, title: `Bytes of ${title}`, base: 0 })))];
-  openDialog(title, el("div", {}, list, ...more));
+  const hasBytes = facts.some(fact => fact.bytes), note = hasBytes ? el("p", { class: "soft small" }, "This page’s script finds places in the module, and makes names readable.") : null;
+  openDialog(title, el("div", {}, list, ...more, ...(note ? [note] : [])));
 }
 
 function factParts(plan, { text, bytes, line }) {

@@ -90,7 +90,7 @@ function sectionsBar(plan) {
 }
 
 const shareWords = (size, all) => `${((100 * size) / (all || 1)).toFixed(1)} %`;
-const sectionWords = ({ id, name, title }) => (id === 0 ? `custom “${title ?? ""}”` : `${name} (${id})`);
+const sectionWords = ({ id, name, title, isCut }) => `${id === 0 ? `custom “${title ?? ""}”` : `${name} (${spoken(id)})`}${isCut ? ", cut off" : ""}`;
 const sizeCells = (plan, { size }) => [spoken(size), shareWords(size, plan.summary.size)];
 const bodyCells = (plan, it) => (it.isImported ? ["imported", ""] : sizeCells(plan, it));
 const sourceName = (plan, kind, index, words) => button(words, () => showOrigin(plan, kind, index), { class: "plain", "aria-label": `Show source of ${words}` });

@@ -41,6 +41,20 @@ class Sources extends Origins {
     return { title: `function ${spoken(index)}`, facts: [...facts, this.section(own < 0 ? 2 : 10), ...(line === null ? [] : this.line("func-name", line))] };
   }
 
+  import(number) {
+    return this.withReadable(super.import(number), this.told.externals.import(number).name);
+  }
+
+  export(number) {
+    return this.withReadable(super.export(number), this.told.externals.export(number).name);
+  }
+
+  withReadable(source, name) {
+    const readable = this.told.contents.names.readable(name);
+    if (readable !== null) source.facts.splice(1, 0, { label: "in the source", text: readable });
+    return source;
+  }
+
   // The runs of locals of a body, behind its parameters.
   localsOf(own) {
     const { begin, len } = this.plan.bodies.get(own).locals, runs = this.plan.locals.slice(begin, begin + Math.min(len, MOST));

@@ -107,7 +107,11 @@ function checkOrder({ parts, told, linesOf, same, report }) {
 // A module that is refused has the sections that were read.
 function checkBroken({ told, linesOf, same }) {
   const { bytes, places } = listedModule(), of = told(bytes.subarray(0, places.sections[4][1] + 1), WORDS);
-  same("a module that is refused has the list of its sections", [of.status, of.contents.counts(), linesOf(of, "sections").slice(0, 5).map(spanOf)], [1, { sections: 5, customs: 0 }, places.sections.slice(0, 5)]);
+  const found = it => [it.status, it.contents.counts(), linesOf(it, "sections").map(spanOf)];
+  same("a module that is refused has the list of its sections", found(of), [1, { sections: 5, customs: 0 }, places.sections.slice(0, 5)]);
+  const [from, to] = places.sections[3], cut = told(bytes.subarray(0, to - 1), WORDS), [last] = linesOf(cut, "sections").slice(3);
+  same("a section that is cut off goes to the end of the file", [...found(cut)[2].slice(0, 3), spanOf(last), last.isCut], [...places.sections.slice(0, 3), [from, to - 1], true]);
+  same("what is no module has no lists", told(Buffer.from("(module)"), WORDS).contents.counts(), { sections: 0, customs: 0 });
 }
 
 function checkMany({ told, linesOf, report }) {

@@ -48,7 +48,8 @@ function hostileNames() {
     last = here;
   }
   const deep = ["I", "N", "P", "F"].flatMap(letter => [`_R${letter.repeat(3900)}`, `_Z1f${letter.repeat(3900)}`, `_Z1f${letter.repeat(3900)}i`]);
-  return [`_Z1fSt4pairIiiE${pairs.join("")}`, `_R${tuples}E`, ...deep];
+  const packs = Array.from({ length: 40 }, () => "DpSt5tupleIJDpT_T_EE");
+  return [`_Z1fSt4pairIiiE${pairs.join("")}`, `_Z1fIJ${"i".repeat(300)}EEv${packs.join("")}`, `_R${tuples}E`, ...deep];
 }
 
 export function checkNames({ parts, report }) {
