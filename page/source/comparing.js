@@ -45,7 +45,7 @@ class Comparison {
 
   summary() {
     const { one, common, onlyOther } = this;
-    return { common, onlyOne: one.plan.types - common, onlyOther, types: this.pairs.length, images: this.images(), regions: this.regions(), counts: this.counts() };
+    return { common, onlyOne: one.plan.types - common, onlyOther, types: this.pairs.length, segments: this.segmentCount(), images: this.images(), regions: this.regions(), counts: this.counts() };
   }
 
   types(from, to) {
@@ -60,6 +60,20 @@ class Comparison {
       if (ours || theirs) rows.push({ memory, one: ours && placeWords(ours), other: theirs && placeWords(theirs), ...difference(ours, theirs), relative: relativeDifference(ours, theirs) });
     }
     return rows;
+  }
+
+  segmentCount() {
+    return Math.max(this.one.places.data.length, this.other.places.data.length);
+  }
+
+  // Data segments of both by their numbers, byte by byte from where each begins: wherever it is written, and where it is not written at all.
+  segments(from, to) {
+    const told = (side, index) => (index < side.places.data.length ? { ...side.contents.line("data", index), preview: null } : null);
+    const dataOf = (side, { bytes: { from: begin, to: end } }) => ({ at: 0, bytes: side.module.subarray(begin, end) });
+    return Array.from({ length: Math.max(0, Math.min(to, this.segmentCount()) - from) }, (_, i) => {
+      const [ours, theirs] = [told(this.one, from + i), told(this.other, from + i)];
+      return { index: from + i, one: ours, other: theirs, ...(ours && theirs ? difference(dataOf(this.one, ours), dataOf(this.other, theirs)) : { differing: null, first: null }) };
+    });
   }
 
   regions() {

@@ -4,7 +4,26 @@
 function comparisonOf(summary, ask, plans) {
   if (!summary) return [importsCard(ask, plans)];
   const names = plans.map(plan => plan.summary.name);
-  return [countsCard(summary, names), sharedTypesCard(summary, ask, names), imagesCard(summary, plans), contextsCard(summary, plans), importsCard(ask, plans)];
+  return [countsCard(summary, names), sharedTypesCard(summary, ask, names), imagesCard(summary, plans), segmentsCard(summary, ask, plans), contextsCard(summary, plans), importsCard(ask, plans)];
+}
+
+// Data segments of both, side by side by their numbers. Those of modules that an engine moves have no image, and passive ones have none either.
+function segmentsCard({ segments }, ask, plans) {
+  const [one, other] = plans.map(plan => plan.summary.name), label = "data segments of both";
+  if (!segments) return card("Data segments of both: none");
+  const part = (it, plan) => {
+    if (!it) return "none";
+    const place = it.memory === null ? "passive" : `memory ${spoken(it.memory)}, at ${it.place}`;
+    return [`${count(it.size, "byte")}, ${place} `, lineBytes(plan, it, `data segment ${spoken(it.index)} of ${plan.summary.name}`)];
+  };
+  const said = ({ differing, first }) => {
+    if (differing === null) return cellOf("in one alone", true, false);
+    return cellOf(differing ? `${count(differing, "byte differs", "bytes differ")}, the first ${spoken(first)} behind the begin` : "the same bytes", differing > 0, false);
+  };
+  const row = it => [spoken(it.index), part(it.one, plans[0]), part(it.other, plans[1]), said(it)];
+  const draw = rows => table(label, ["#segment", one, other, "from where each begins"], rows.map(row));
+  const how = "This page’s script finds the segments, and compares those of one number from their first bytes on.";
+  return card("Data segments of both", el("p", { class: "soft" }, how), listed({ ask }, { label, unit: "data segment", count: segments, question: "segments", draw }));
 }
 
 const cellOf = (words, isDifferent, isNumber = true) => el("td", { class: [isNumber && "n", isDifferent && "differs"].filter(Boolean).join(" ") || null }, ...[words].flat());

@@ -32,8 +32,7 @@ class Sources extends Origins {
     facts.push({ label: "type", text: `type ${spoken(plan.functions.get(index))}: ${told.externals.function(index)}` });
     if (own < 0) facts.push(this.item(`import ${spoken(told.externals.importOf(0, index))}`, 2, this.places.importStarts, told.externals.importOf(0, index)));
     else {
-      const body = bodies.body(own);
-      facts.push({ label: "body", text: count(body.to - body.from, "byte"), bytes: body }, { label: "locals", text: this.localsOf(own) });
+      facts.push(...this.bodyFacts(own, bodies.body(own)));
     }
     facts.push({ label: "escapes", text: this.escapeWords(plan.escapes.get(index)) }, ...this.hintsOf(index));
     const exported = told.externals.exportWords(0, index), line = indexIn(plan.function_names, plan.function_names.column("function"), index);
@@ -53,6 +52,16 @@ class Sources extends Origins {
     const readable = this.told.contents.names.readable(name);
     if (readable !== null) source.facts.splice(1, 0, { label: "in the source", text: readable });
     return source;
+  }
+
+  // A body, whose offset debug information counts from the begin of the section's contents, and its code behind the locals.
+  bodyFacts(own, body) {
+    const { code } = this.plan.bodies.get(own), place = body.from - this.plan.code_section_offset;
+    return [
+      { label: "body", text: `${count(body.to - body.from, "byte")}, from byte ${spoken(place)} of the contents of its section on`, bytes: body },
+      { label: "locals", text: this.localsOf(own) },
+      { label: "code", text: count(code.length, "byte"), bytes: { from: body.to - code.length, to: body.to } },
+    ];
   }
 
   // The runs of locals of a body, behind its parameters.

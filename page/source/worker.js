@@ -44,6 +44,10 @@ const ANSWERS = {
     return comparison.types(from, to);
   },
 
+  segments({ from, to }) {
+    return comparison.segments(from, to);
+  },
+
   // Plans both modules once more, so it takes as long as that.
   link({ importer, name }) {
     linking = null;

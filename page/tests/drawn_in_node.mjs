@@ -144,6 +144,9 @@ async function checkMoved({ opened, report }) {
   page.byId("shown").onchange({ target: { value: "comparison" } });
   await page.until(() => page.rows("images of both").length > 0);
   const [row] = page.rows("images of both");
+  await page.until(() => page.rows("data segments of both").length > 0);
+  const [segment] = page.rows("data segments of both"), cells = ["20 bytes, memory 0, at 1,024 Show bytes", "20 bytes, memory 0, at 1,048,576 Show bytes", "the same bytes"];
+  report("drawn: so are their data segments", () => segment.slice(1).join() === cells.join(), segment);
   report("drawn: data of two modules is compared by address and from where it begins", () => row[3] === "40 bytes differ, the first at 1,024" && row[4] === "the same bytes; data begin at 1,024 and 1,048,576", row);
 }
 

@@ -26,7 +26,7 @@ export async function checkInBrowser({ page, chromium, ...more }) {
 }
 
 class PageChecks extends Opened {
-  static all = ["examples", "modules", "files", "searching", "dropping", "refusals", "others", "reloading", "address", "dialogs", "keyboard", "names", "narrow", "colours", "comparison", "twoDropped", "saving", "stopping", "many"];
+  static all = ["examples", "modules", "files", "searching", "dropping", "refusals", "others", "reloading", "address", "dialogs", "lists", "keyboard", "names", "narrow", "colours", "comparison", "twoDropped", "saving", "stopping", "many"];
 
   async examples() {
     await this.shot("empty");
@@ -199,6 +199,25 @@ class PageChecks extends Opened {
     this.report("in the browser: an image’s bytes are shown by their addresses", () => first === "00100000  68 65 6C 6C 6F 00 00 00  00 00 00 00 00 00 00 00  hello···········", [first]);
     await this.shot("bytes", true);
     await this.tab.value("closeDialog()");
+  }
+
+  // The lists, of which one is shown at a time. On a narrow screen the buttons of a line are in view.
+  async lists() {
+    const press = words => this.tab.value(`[...document.querySelectorAll(".choices button")].find(it => it.textContent === ${JSON.stringify(words)}).click()`);
+    const rows = "[...document.querySelectorAll('#answer table')].find(it => it.caption.textContent === 'functions')?.tBodies[0].rows";
+    await press("2 functions");
+    await this.tab.until(`${rows}?.length === 2`);
+    await press("Largest first");
+    await this.tab.until(`${rows}?.[0].cells[1].textContent === "add"`);
+    const isFolded = await this.tab.value("!document.getElementById('controls').open && document.getElementById('chosen').checkVisibility()");
+    this.report("in the browser: functions are listed by size, and the controls are one line", () => isFolded);
+    await this.shot("lists");
+    await this.tab.resize(400, 780);
+    const place = await this.tab.value(`(() => { const { left, right } = ${rows}[0].querySelector(".more button").getBoundingClientRect(); return [left, right, innerWidth]; })()`);
+    this.report("in the browser: on a narrow screen the buttons of a line are in view", () => place[0] >= 0 && place[1] <= place[2], [place.join()]);
+    await this.shot("lists-narrow");
+    await this.tab.send("Emulation.clearDeviceMetricsOverride");
+    await press("11 sections");
   }
 
   // Tab by Tab, all that can be used is reached, and it shows where the keyboard is.

@@ -99,6 +99,8 @@ function checkMoved({ parts, told, report }) {
   report("data in place differs by address as from where it begins", () => same.differing === 2 && same.first === 1028 && same.relative.differing === 2 && same.relative.first === 4, [JSON.stringify(same)]);
   const far = compared(movedData(16, data), movedData(20 * 65536 - 10, data));
   report("of data that is far apart only what is written is looked at", () => far.differing === 20 && far.relative.differing === 0, [JSON.stringify(far)]);
+  const pairs = new parts.Comparison(told(movedData(1024, data), []), told(movedData(65536, changed), [])).segments(0, 9);
+  report("without images data segments are compared from where each begins", () => pairs.length === 1 && pairs[0].differing === 2 && pairs[0].first === 4 && pairs[0].one.place === "1,024" && pairs[0].other.place === "65,536", [JSON.stringify(pairs)]);
   const empty = compared(movedData(1024, data), movedData(1024, Buffer.alloc(0)));
   report("a memory without an image is compared by address alone", () => empty.differing === 10 && empty.relative === null, [JSON.stringify(empty)]);
 }

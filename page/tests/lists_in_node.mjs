@@ -85,6 +85,7 @@ function checkSources({ parts, of, same }) {
   const { name, "in the source": source, locals, escapes } = facts("function", 1);
   same("the source of a function has both of its names", [name, source], [`${RUST_NAME}, by the name section`, "core::ptr::drop_in_place"]);
   same("and its locals by their types", [locals, facts("function", 2).locals], ["none", "2 of i32, 1 of f64"]);
+  same("and where its body and code are", [facts("function", 2).body, facts("function", 2).code], ["8 bytes, from byte 5 of the contents of its section on", "3 bytes"]);
   same("and whether it escapes", [escapes.startsWith("yes: reference "), facts("function", 0).escapes.startsWith("yes: ")], [true, true]);
   same("the source of a custom section has all that is in it", [facts("custom", 0).needs, facts("custom", 2)["processed-by"]], ["libc.so, libm.so", "rustc 1.80.0, clang 18"]);
   const lines = ["anySection", "function", "global", "element", "datum", "import", "export"].map(kind => new parts.Origins(of).of(kind, 1).facts.some(it => it.bytes));
