@@ -7,29 +7,45 @@ let chosenList = "sections";
 const LISTS = {
   sections: {
     unit: "section", whose: "This page’s script finds the sections.", columns: ["section", "#items", "#from byte", "#bytes", "#share", "more"],
-    row: (plan, it) => [sourceName(plan, "anySection", it.index, sectionWords(it)), it.count === null ? "" : spoken(it.count), spoken(it.bytes.from), ...sizeCells(plan, it), lineBytes(plan, it, sectionWords(it))],
+    row: (plan, it) => {
+      const words = sectionWords(it), items = it.count === null ? "" : spoken(it.count);
+      return [sourceName(plan, "anySection", it.index, words), items, spoken(it.bytes.from), ...sizeCells(plan, it), lineBytes(plan, it, words)];
+    },
   },
   imports: {
     unit: "import", whose: "The planner says names, kinds and types; this page’s script makes names readable and finds places.", columns: ["#import", "module", "name", "what it is", "#bytes", "more"],
-    row: (plan, it) => [sourceNumber(plan, "import", it.index), `“${it.from}”`, nameParts(it), entityParts({ ...it, index: it.entity }), spoken(it.size), lineBytes(plan, it, `import ${spoken(it.index)}`)],
+    row: (plan, it) => [
+      sourceNumber(plan, "import", it.index), el("span", { class: "name" }, `“${it.from}”`), nameParts(it), entityParts({ ...it, index: it.entity }), spoken(it.size),
+      lineBytes(plan, it, `import ${spoken(it.index)}`),
+    ],
   },
   exports: {
     unit: "export", whose: "The planner says names, kinds and types; this page’s script makes names readable and finds places.", columns: ["#export", "name", "what it is", "#bytes", "more"],
-    row: (plan, it) => [sourceNumber(plan, "export", it.index), nameParts(it), entityParts({ ...it, index: it.entity }), spoken(it.size), lineBytes(plan, it, `export ${spoken(it.index)}`)],
+    row: (plan, it) => [
+      sourceNumber(plan, "export", it.index), nameParts(it), entityParts({ ...it, index: it.entity }), spoken(it.size), lineBytes(plan, it, `export ${spoken(it.index)}`),
+    ],
   },
   functions: {
     unit: "function", whose: "The planner says types, escapes, names of the name section and where code ends; this page’s script makes names readable and finds places.",
     columns: ["#function", "name", "type", "#bytes of the body", "#share", "#escapes as", "more"],
-    row: (plan, it) => [sourceNumber(plan, "function", it.index), functionName(it), el("code", {}, it.words), ...bodyCells(plan, it), it.escape === null ? "" : spoken(it.escape), lineBytes(plan, it, `function ${spoken(it.index)}`)],
+    row: (plan, it) => {
+      const escape = it.escape === null ? "" : spoken(it.escape);
+      return [sourceNumber(plan, "function", it.index), functionName(it), el("code", {}, it.words), ...bodyCells(plan, it), escape, lineBytes(plan, it, `function ${spoken(it.index)}`)];
+    },
   },
   globals: {
     unit: "global", whose: "The planner says types, values and names; this page’s script finds places.", columns: ["#global", "type", "begins as", "names", "#bytes", "more"],
-    row: (plan, it) => [sourceNumber(plan, "global", it.index), it.type, valueParts(it), it.names.join(", "), spoken(it.size), lineBytes(plan, it, `global ${spoken(it.index)}`)],
+    row: (plan, it) => [
+      sourceNumber(plan, "global", it.index), it.type, valueParts(it), it.names.join(", "), spoken(it.size), lineBytes(plan, it, `global ${spoken(it.index)}`),
+    ],
   },
   elements: {
     unit: "element segment", columns: ["#segment", "use", "place", "#items", "first items", "#bytes", "more"],
     whose: "The planner says the items of segments that startup writes and of passive ones; this page’s script reads those of the others, and finds places.",
-    row: (plan, it) => [sourceNumber(plan, "element", it.index), it.use, tablePlace(it), spoken(it.count), itemParts(plan, it), spoken(it.size), lineBytes(plan, it, `element segment ${spoken(it.index)}`)],
+    row: (plan, it) => [
+      sourceNumber(plan, "element", it.index), it.use, tablePlace(it), spoken(it.count), itemParts(plan, it), spoken(it.size),
+      lineBytes(plan, it, `element segment ${spoken(it.index)}`),
+    ],
   },
   data: {
     unit: "data segment", whose: "This page’s script finds the segments; what the planner makes of them is under Memories.", columns: ["#segment", "place", "#bytes", "#share", "#not zero", "first bytes", "more"],
@@ -40,7 +56,10 @@ const LISTS = {
   },
   customs: {
     unit: "custom section", whose: "This page’s script reads them.", columns: ["name", "what is in it", "#from byte", "#bytes", "#share", "more"],
-    row: (plan, it) => [sourceName(plan, "custom", it.index, `“${it.title ?? ""}”`), it.words, spoken(it.bytes.from), ...sizeCells(plan, it), lineBytes(plan, it, `custom section ${spoken(it.index)}`)],
+    row: (plan, it) => [
+      sourceName(plan, "custom", it.index, `“${it.title ?? ""}”`), el("span", { class: "name" }, it.words), spoken(it.bytes.from), ...sizeCells(plan, it),
+      lineBytes(plan, it, `custom section ${spoken(it.index)}`),
+    ],
   },
 };
 
@@ -93,7 +112,7 @@ const shareWords = (size, all) => `${((100 * size) / (all || 1)).toFixed(1)} %`;
 const sectionWords = ({ id, name, title, isCut }) => `${id === 0 ? `custom “${title ?? ""}”` : `${name} (${spoken(id)})`}${isCut ? ", cut off" : ""}`;
 const sizeCells = (plan, { size }) => [spoken(size), shareWords(size, plan.summary.size)];
 const bodyCells = (plan, it) => (it.isImported ? ["imported", ""] : sizeCells(plan, it));
-const sourceName = (plan, kind, index, words) => button(words, () => showOrigin(plan, kind, index), { class: "plain", "aria-label": `Show source of ${words}` });
+const sourceName = (plan, kind, index, words) => button(words, () => showOrigin(plan, kind, index), { class: "plain long", "aria-label": `Show source of ${words}` });
 
 function sourceNumber(plan, kind, index) {
   const what = { datum: "data segment", element: "element segment" }[kind] ?? kind;
@@ -106,12 +125,10 @@ function lineBytes(plan, { bytes, size }, what) {
 }
 
 // A name as it is in the source, with the one of the module where the pointer is.
-const nameParts = ({ name, readable }) => (readable === null ? `“${name}”` : el("span", { title: name }, `“${readable}”`));
+const nameParts = ({ name, readable }) => el("span", { class: "name", title: readable && name }, `“${readable ?? name}”`);
 
 function functionName({ name, readable, from }) {
-  if (name === null) return el("span", { class: "soft" }, "no name");
-  if (readable !== null) return el("span", { title: name }, readable);
-  return from === "name section" ? name : el("span", { class: "soft" }, name);
+  return el("span", { class: from === "name section" ? "name" : "name soft", title: readable && name }, readable ?? name ?? "no name");
 }
 
 function valueParts({ value, isImported }) {

@@ -91,9 +91,10 @@ async function checkLists({ opened, report }) {
   sort.click();
   await page.until(() => page.rows("functions")[0][0] === "0");
   report("drawn: another click has them in order again", () => sort.getAttribute("aria-pressed") === "false");
-  for (const [words, caption, lines] of [["2 imports", "imports", 2], ["2 exports", "exports", 2], ["5 globals", "globals", 5], ["5 element segments", "element segments", 5], ["2 data segments", "data segments", 2], ["7 custom sections", "custom sections", 7]]) {
-    const found = await page.choose(words, caption), whose = page.buttons(words)[0].parentElement.parentElement.querySelectorAll(".soft").some(it => /planner|script/.test(it.textContent));
-    report(`drawn: there are ${words}, and it is said whose words they are`, () => found.length === lines && whose, found.map(String));
+  for (const words of ["2 imports", "2 exports", "5 globals", "5 element segments", "2 data segments", "7 custom sections"]) {
+    const [, lines, caption] = /^(\d) (.*)$/.exec(words), found = await page.choose(words, caption);
+    const whose = page.buttons(words)[0].parentElement.parentElement.querySelectorAll(".soft").some(it => /planner|script/.test(it.textContent));
+    report(`drawn: there are ${words}, and it is said whose words they are`, () => found.length === Number(lines) && whose, found.map(String));
   }
   const source = await page.dialog("Show source of “build_id”");
   report("drawn: a line opens its source", () => page.byId("dialog-title").textContent === "custom section “build_id”" && source.textContent.includes("0aff10"), [source.textContent]);
@@ -107,7 +108,8 @@ async function checkBytes({ opened, report }) {
     const body = await page.dialog("Show bytes of data segment 0");
     await page.until(() => body.querySelector("pre") !== null);
     const pre = body.querySelector("pre");
-    return { lines: pre.textContent.split("\n"), pairs: pre.querySelectorAll("mark").map(it => it.textContent).join(""), letters: pre.querySelectorAll(".marked").map(it => it.textContent).join("") };
+    const textOf = selector => pre.querySelectorAll(selector).map(it => it.textContent).join("");
+    return { lines: pre.textContent.split("\n"), pairs: textOf("mark"), letters: textOf(".marked") };
   };
   const { places: { 11: [[from]] }, bytes } = listedModule(), wide = await hex(false), narrow = await hex(true);
   report("drawn: the bytes that are meant are marked, and their letters", () => [wide, narrow].every(it => it.pairs === "616263" && it.letters === "abc"), [JSON.stringify(wide.pairs), wide.letters]);

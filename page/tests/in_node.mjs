@@ -22,7 +22,23 @@ export async function checkInNode({ page, root, program, report }) {
 
   const wanted = readFileSync(join(root, "crates/translate_tool/stdout"));
   report("the linked program has the text of the program’s stored run", () => textOf(told(parts.linked, ["--cow", "--lazy-tables"])).equals(wanted));
+  checkCases({ told, textOf, ofProgram, root, program, report });
 
+  const own = told(parts.planner, ["--cow", "--lazy-tables"], "planner.wasm");
+  report("the planner plans its own module", () => own.isPlanned && own.plan.functions.length === own.places.functions.length && own.plan.declared.length === own.places.types.length);
+  if (program) report("its own plan has the text of the program", () => ofProgram(parts.planner, ["--cow", "--lazy-tables"]).stdout.equals(textOf(own)));
+
+  checkRecords({ parts, own, report });
+  checkHeap({ parts, compiled, report });
+  checkComparison({ parts, told, own, report });
+  checkImports({ parts, compiled, told, root, report });
+  checkLists({ parts, told, root, report });
+  checkNames({ parts, report });
+  await checkDrawn({ page, root, compiled, report });
+}
+
+// Each module of plan_cases.
+function checkCases({ told, textOf, ofProgram, root, program, report }) {
   const modules = readModules(join(root, "crates/plan_cases/data"));
   const wrong = [], others = [], unfound = [];
   for (const made of modules) {
@@ -40,18 +56,6 @@ export async function checkInNode({ page, root, program, report }) {
   report(`each of the ${modules.length} modules of plan_cases has what its case says`, () => wrong.length === 0, wrong);
   if (program) report(`each of them has the text of ${program}`, () => others.length === 0, others);
   report("each refusal has its place, where there is one", () => unfound.length === 0, unfound);
-
-  const own = told(parts.planner, ["--cow", "--lazy-tables"], "planner.wasm");
-  report("the planner plans its own module", () => own.isPlanned && own.plan.functions.length === own.places.functions.length && own.plan.declared.length === own.places.types.length);
-  if (program) report("its own plan has the text of the program", () => ofProgram(parts.planner, ["--cow", "--lazy-tables"]).stdout.equals(textOf(own)));
-
-  checkRecords({ parts, own, report });
-  checkHeap({ parts, compiled, report });
-  checkComparison({ parts, told, own, report });
-  checkImports({ parts, compiled, told, root, report });
-  checkLists({ parts, told, root, report });
-  checkNames({ parts, report });
-  await checkDrawn({ page, root, compiled, report });
 }
 
 // Lists against the text, in which each has its lines.

@@ -122,8 +122,9 @@ function checkMany({ told, linesOf, report }) {
     return { first, end, took: ((performance.now() - begun) / 1000).toFixed(2) };
   };
   const functions = timed(manyFunctions(MANY_FUNCTIONS), "functions"), segments = timed(manySegments(MANY_SEGMENTS), "data");
-  report(`of ${MANY_FUNCTIONS.toLocaleString("en")} functions the largest and the last come in ${functions.took} s`, () => functions.first.index === 0 && functions.first.size === 4 && functions.end.index === MANY_FUNCTIONS - 1 && functions.end.size === 2);
-  report(`of ${MANY_SEGMENTS.toLocaleString("en")} segments the largest and the last come in ${segments.took} s`, () => segments.first.index === 0 && segments.end.index === MANY_SEGMENTS - 1 && segments.end.place === (MANY_SEGMENTS - 1).toLocaleString("en"));
+  const words = number => number.toLocaleString("en"), last = MANY_SEGMENTS - 1;
+  report(`of ${words(MANY_FUNCTIONS)} functions the largest and the last come in ${functions.took} s`, () => functions.first.index === 0 && functions.first.size === 4 && functions.end.index === MANY_FUNCTIONS - 1 && functions.end.size === 2);
+  report(`of ${words(MANY_SEGMENTS)} segments the largest and the last come in ${segments.took} s`, () => segments.first.index === 0 && segments.end.index === last && segments.end.place === words(last));
 }
 
 // Of each case that is planned: expressions from the tables against the lines of the text, and items that the script reads against the planner's.
