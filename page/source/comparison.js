@@ -23,7 +23,7 @@ function segmentsCard({ segments }, ask, plans) {
   const row = it => [spoken(it.index), part(it.one, plans[0]), part(it.other, plans[1]), said(it)];
   const draw = rows => table(label, ["#segment", one, other, "from where each begins"], rows.map(row));
   const how = "This page’s script finds the segments, and compares those of one number from their first bytes on.";
-  return card("Data segments of both", el("p", { class: "soft" }, how), listed({ ask }, { label, unit: "data segment", count: segments, question: "segments", draw }));
+  return card("Data segments of both", whosePart(how), listed({ ask }, { label, unit: "data segment", count: segments, question: "segments", draw }));
 }
 
 const cellOf = (words, isDifferent, isNumber = true) => el("td", { class: [isNumber && "n", isDifferent && "differs"].filter(Boolean).join(" ") || null }, ...[words].flat());
@@ -44,7 +44,8 @@ function sharedTypesCard({ types, common, onlyOne, onlyOther }, ask, [one, other
     return [cellOf(number(it.one), isDifferent), cellOf(number(it.other), isDifferent), el("code", {}, it.words)];
   };
   const draw = rows => table("types of both", [`#in ${one}`, `#in ${other}`, "what it is"], rows.map(row));
-  return card("Types of both", el("p", {}, ...words), listed({ ask }, { label: "types of both", unit: "row", count: types, question: "differences", draw }));
+  const whose = whosePart("The planner says the types of each; this page’s script finds those that are equal.");
+  return card("Types of both", el("p", {}, ...words), whose, listed({ ask }, { label: "types of both", unit: "row", count: types, question: "differences", draw }));
 }
 
 function imagesCard({ images }, plans) {
@@ -61,7 +62,8 @@ function imagesCard({ images }, plans) {
   const rows = images.map(it => [`memory ${spoken(it.memory)}`, part(it.one, plans[0]), part(it.other, plans[1]), said(it), relativeCell(it.relative)]);
   const columns = ["memory", plans[0].summary.name, plans[1].summary.name, "difference by address", "from where data begin"];
   const how = "The second difference lays both so that their first bytes that are not zero are at one place.";
-  return card("Images of both", el("p", { class: "soft" }, how), boxed("images of both", table("images of both", columns, rows)));
+  const whose = whosePart("The planner says the images; this page’s script compares them.");
+  return card("Images of both", el("p", { class: "soft" }, how), whose, boxed("images of both", table("images of both", columns, rows)));
 }
 
 function relativeCell(relative) {

@@ -22,6 +22,7 @@ function contextCard(plan) {
   return card(
     `Instance context: ${count(context, "byte")}`,
     el("p", { class: "soft" }, "Compiled code finds everything of an instance in these bytes, one region after another."),
+    whosePart("The planner says all of this."),
     el("div", { class: "bar", role: "group", "aria-label": "the regions of the context, from its first byte on" }, ...parts),
     el("div", { class: "ends" }, el("span", {}, "0"), el("span", {}, spoken(context))),
     scrolled("regions of the context", table("regions of the context", ["region", "#begins", "#bytes"], regions.map(row))),
@@ -42,6 +43,7 @@ function typesCard(plan) {
   return card(
     `Types: ${spoken(counts.declared)} declared, ${spoken(types)} interned`,
     el("p", { class: "soft" }, `Declared types that are equal have one interned type. They are in ${count(counts.groups, "group")}.`),
+    whosePart("The planner says all of this."),
     listed(plan, { label: "interned types", unit: "type", count: types, question: "types", draw }),
   );
 }

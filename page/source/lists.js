@@ -79,7 +79,7 @@ function contentsCard(plan) {
 
 function listPart(plan, list, lines) {
   const { unit, whose, columns, row } = LISTS[list], label = listWords(list);
-  const note = el("p", { class: "soft small" }, whose);
+  const note = whosePart(whose);
   if (!lines) return el("div", {}, note, el("p", { class: "soft" }, `It has no ${label}.`));
   let isBySize = false;
   const draw = rows => table(label, columns, rows.map(it => row(plan, it)));

@@ -166,6 +166,7 @@ async function planSide(side) {
     else sides[side] = null;
   } finally {
     if (sides[side]) sides[side].isPlanning = false;
+    showChosen();
     hideProgress();
   }
 }
@@ -189,7 +190,6 @@ function showChosen() {
 function setPlan(side, summary) {
   sides[side].isPlanning = false;
   foldControls(side);
-  showChosen();
   sides[side].plan = { summary, side, ask: (question, words) => asking.ask(question, { side, ...words }) };
   byId(`name-${side}`).textContent = summary.name;
   const isRefused = summary.status !== "planned";

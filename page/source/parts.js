@@ -39,6 +39,11 @@ function table(caption, columns, rows) {
   return el("table", {}, el("caption", { class: "unseen" }, caption), el("thead", {}, head), el("tbody", {}, ...body));
 }
 
+// Whose words a list has: what the planner says is proved, and what this page's script finds is not.
+function whosePart(words) {
+  return el("p", { class: "soft small" }, words);
+}
+
 // What may be wider than its place: the keyboard can scroll it.
 function scrolled(label, inside, more = "") {
   return el("div", { class: `scroll${more}`, tabindex: "0", role: "region", "aria-label": label }, inside);

@@ -5,7 +5,8 @@ function tablesCard(plan) {
   if (!entities.tables) return card("Tables: none");
   const draw = rows => el("div", {}, ...rows.map(row => tablePart(plan, row)));
   const all = listed(plan, { label: "tables", unit: "table", count: entities.tables, size: 10, question: "tables", draw, isBoxed: false });
-  return card(`Tables: ${spoken(entities.tables)}`, all, counts.elements ? elementsPart(plan, counts.elements) : null);
+  const whose = whosePart("The planner says all of this; this page’s script makes names readable.");
+  return card(`Tables: ${spoken(entities.tables)}`, whose, all, counts.elements ? elementsPart(plan, counts.elements) : null);
 }
 
 function tablePart(plan, row) {

@@ -127,11 +127,11 @@ export function openedPage(page, compile, { isNarrow = false, stored = {} } = {}
     postMessage(data) { setTimeout(() => this.listen({ data }), 0); }
     terminate() {}
   };
-  const page_ = vm.createContext({
+  const window = vm.createContext({
     ...shared, document, HTMLTableCellElement: class {}, Worker: worker, URL: { createObjectURL: () => "", revokeObjectURL() {} }, navigator: { clipboard: {} },
     location: { hash: "", href: "" }, history: { replaceState() {} }, matchMedia: () => ({ matches: isNarrow }), addEventListener() {},
     sessionStorage: { getItem: key => stored[key] ?? null, setItem: (key, value) => (stored[key] = value), removeItem: key => delete stored[key] },
   });
-  vm.runInContext(scripts.page, page_);
-  return { root, byId, value: words => vm.runInContext(words, page_) };
+  vm.runInContext(scripts.page, window);
+  return { root, byId, value: words => vm.runInContext(words, window) };
 }
