@@ -21,6 +21,7 @@
 mod linking;
 mod links;
 mod options;
+mod places;
 mod planning;
 mod refusals;
 mod text;
@@ -28,5 +29,6 @@ mod text;
 pub use linking::bobbinazure_link;
 pub use links::{ImportAnswerRecord, LinkRecord};
 pub use options::PlanOptions;
+pub use places::{PlaceRecord, bobbinazure_locate};
 pub use planning::{bobbinazure_make_plan, bobbinazure_make_plan_and_text, bobbinazure_make_text};
 pub use text::TextRecord;
