@@ -57,6 +57,21 @@ enum {
     BOBBINAZURE_INTERFACE_TYPES = 6
 };
 
+/* What is wrong at a place: the field `fault`. */
+enum {
+    BOBBINAZURE_FAULT_HEADER = 1,           /* the module does not begin with the header */
+    BOBBINAZURE_FAULT_UNKNOWN_SECTION = 2,  /* no section has the id */
+    BOBBINAZURE_FAULT_SECTION_ORDER = 3,    /* the section may not follow those before it */
+    BOBBINAZURE_FAULT_SECTION_SIZE = 4,     /* its size is no unsigned number of 32 bits */
+    BOBBINAZURE_FAULT_SECTION_END = 5,      /* the module ends before the section does */
+    BOBBINAZURE_FAULT_NUMBER = 6,           /* the section is not the one number that it should be */
+    BOBBINAZURE_FAULT_NAME = 7,             /* a custom section without a name */
+    BOBBINAZURE_FAULT_COUNT = 8,            /* the number of entries is no unsigned number of 32 bits */
+    BOBBINAZURE_FAULT_ENTRY = 9,            /* the entry is none */
+    BOBBINAZURE_FAULT_REMAINDER = 10,       /* bytes follow the last entry of the section */
+    BOBBINAZURE_FAULT_UNSUPPORTED = 11      /* well formed, and not supported */
+};
+
 /* How the offset of a segment is given: the field `kind`. */
 enum {
     BOBBINAZURE_AT_BYTE = 0,        /* offset: the offset itself, which the planner computed */
@@ -811,6 +826,26 @@ typedef struct {
     BOBBINAZURE_LIST(bobbinazure_import_answer) answers;
 } bobbinazure_link_record;
 
+/* Where and why a module is malformed or not supported. Offsets count the bytes of the module,
+   from 0 on. */
+typedef struct {
+    /* The id of the section; BOBBINAZURE_NONE in the header, and where no section has the id. */
+    uint32_t section;
+    /* The offset of the section, which begins with its id; 0 in the header. */
+    uint32_t section_start;
+    /* The entry of the section, from 0 on, where an entry is wrong; else BOBBINAZURE_NONE. */
+    uint32_t entry;
+    /* The offset of what is wrong; the length of the module where it ends too early. */
+    uint32_t byte;
+    /* Input that begins with so many of these bytes is refused too; BOBBINAZURE_NONE where the
+       module ends too early. */
+    uint32_t decided;
+    uint32_t fault;             /* What is wrong: a number from BOBBINAZURE_FAULT_HEADER on. */
+    bobbinazure_bytes sentence; /* A sentence for people, in UTF-8, without a zero at the end. */
+    /* Whether the sentence is in memory of its own, which bobbinazure_place_free frees. */
+    uint32_t made;
+} bobbinazure_place;
+
 /* The end of what embed/generate makes. */
 
 /* Plans the module that the bytes spell.
@@ -850,6 +885,16 @@ uint32_t bobbinazure_make_plan_and_text(const uint8_t *bytes, size_t len, const 
 uint32_t bobbinazure_link(const uint8_t *exporter, size_t exporter_len, const uint8_t *importer, size_t importer_len,
                           const uint8_t *as_module, size_t as_module_len, const bobbinazure_options *options,
                           bobbinazure_link_record *links);
+
+/* Says where and why bytes are malformed or not supported, for messages: call it after such a refusal.
+ *
+ * `place` must come from bobbinazure_place_init, and bobbinazure_place_free frees it. It does not point
+ * into the bytes.
+ *
+ *   PLANNED        the bytes are read as a module, or there are 2^30 or more; it is unchanged
+ *   REFUSED        it says where and why
+ *   NO_MEMORY      it is unchanged */
+uint32_t bobbinazure_locate(const uint8_t *bytes, size_t len, bobbinazure_place *place);
 
 /* The offset in the module of bytes that a plan has from it: the code of a body, a segment, a name. */
 static inline size_t bobbinazure_offset(const uint8_t *module, bobbinazure_bytes part) {
@@ -892,6 +937,12 @@ static inline bobbinazure_text bobbinazure_text_init(void) {
     return text;
 }
 
+static inline bobbinazure_place bobbinazure_place_init(void) {
+    bobbinazure_place place = {BOBBINAZURE_NONE, 0, BOBBINAZURE_NONE, 0, BOBBINAZURE_NONE, 0,
+                               {(const uint8_t *)"", 0}, 0};
+    return place;
+}
+
 static inline bobbinazure_link_record bobbinazure_link_init(void) {
     static const uint64_t nothing[4] = {0, 0, 0, 0};
     const void *at = nothing;
@@ -916,6 +967,11 @@ static inline void bobbinazure_plan_free(bobbinazure_plan *plan) {
 static inline void bobbinazure_text_free(bobbinazure_text *text) {
     if (text->made && text->text.len) free((void *)text->text.at);
     *text = bobbinazure_text_init();
+}
+
+static inline void bobbinazure_place_free(bobbinazure_place *place) {
+    if (place->made && place->sentence.len) free((void *)place->sentence.at);
+    *place = bobbinazure_place_init();
 }
 
 static inline void bobbinazure_link_free(bobbinazure_link_record *links) {

@@ -390,6 +390,16 @@ BOBBINAZURE_AT(link_record, refusal_detail, 8);
 BOBBINAZURE_AT(link_record, refusal_line, 16);
 BOBBINAZURE_AT(link_record, answers, 32);
 
+BOBBINAZURE_SIZE(place, 48);
+BOBBINAZURE_AT(place, section, 0);
+BOBBINAZURE_AT(place, section_start, 4);
+BOBBINAZURE_AT(place, entry, 8);
+BOBBINAZURE_AT(place, byte, 12);
+BOBBINAZURE_AT(place, decided, 16);
+BOBBINAZURE_AT(place, fault, 20);
+BOBBINAZURE_AT(place, sentence, 24);
+BOBBINAZURE_AT(place, made, 40);
+
 #undef BOBBINAZURE_AT
 #undef BOBBINAZURE_SIZE
 #undef BOBBINAZURE_ASSERT

@@ -9,8 +9,8 @@ use refusal_place::{Fault, Place, SectionKind, locate};
 use std::alloc::Global;
 use translate::{NO_MEMORY, REFUSED, SUCCESS};
 
-/// Where and why a module is malformed or not supported: `bobbinazure_place`.
-/// Offsets count the bytes of the module, from 0 on.
+/// Where and why a module is malformed or not supported. Offsets count the bytes of the module, from
+/// 0 on: `bobbinazure_place`.
 #[repr(C)]
 #[derive(Clone, Copy)]
 pub struct PlaceRecord<'d> {
@@ -22,9 +22,10 @@ pub struct PlaceRecord<'d> {
     pub entry: u32,
     /// The offset of what is wrong; the length of the module where it ends too early.
     pub byte: u32,
-    /// No module begins with so many of these bytes; `u32::MAX` where the module ends too early.
+    /// Input that begins with so many of these bytes is refused too; `u32::MAX` where the module ends
+    /// too early.
     pub decided: u32,
-    /// What is wrong: a number of `BOBBINAZURE_FAULT_..`.
+    /// What is wrong: a number from `BOBBINAZURE_FAULT_HEADER` on.
     pub fault: u32,
     /// A sentence for people, in UTF-8, without a zero at the end.
     pub sentence: &'d [u8],

@@ -387,4 +387,14 @@ laid_out! {
         refusal_line 16,
         answers 32,
     }
+    Place: 48 {
+        section 0,
+        section_start 4,
+        entry 8,
+        byte 12,
+        decided 16,
+        fault 20,
+        sentence 24,
+        made 40,
+    }
 }

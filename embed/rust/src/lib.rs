@@ -32,6 +32,7 @@ mod list;
 pub mod numbers;
 mod offsets;
 mod options;
+mod places;
 mod plan;
 mod records;
 mod rows;
@@ -45,6 +46,7 @@ pub use error::{Error, Reason};
 pub use expressions::{ConstExpr, ConstOp};
 pub use interned::{GcLayout, GcLayoutKind};
 pub use links::{Answer, LinkError, link};
+pub use places::{Place, locate};
 pub use plan::{Plan, plan_and_text, text};
 pub use rows::{
     BranchHint, Context, Entities, Field, FuncRefLayout, FunctionImportLayout, Global, GlobalDefinitionLayout, GlobalImportLayout, LayoutField, Memory,

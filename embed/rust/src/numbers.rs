@@ -39,6 +39,31 @@ pub const EXACT_IMPORT: u32 = 5;
 /// interface types
 pub const INTERFACE_TYPES: u32 = 6;
 
+// What is wrong at a place: the field `fault`.
+
+/// the module does not begin with the header
+pub const FAULT_HEADER: u32 = 1;
+/// no section has the id
+pub const FAULT_UNKNOWN_SECTION: u32 = 2;
+/// the section may not follow those before it
+pub const FAULT_SECTION_ORDER: u32 = 3;
+/// its size is no unsigned number of 32 bits
+pub const FAULT_SECTION_SIZE: u32 = 4;
+/// the module ends before the section does
+pub const FAULT_SECTION_END: u32 = 5;
+/// the section is not the one number that it should be
+pub const FAULT_NUMBER: u32 = 6;
+/// a custom section without a name
+pub const FAULT_NAME: u32 = 7;
+/// the number of entries is no unsigned number of 32 bits
+pub const FAULT_COUNT: u32 = 8;
+/// the entry is none
+pub const FAULT_ENTRY: u32 = 9;
+/// bytes follow the last entry of the section
+pub const FAULT_REMAINDER: u32 = 10;
+/// well formed, and not supported
+pub const FAULT_UNSUPPORTED: u32 = 11;
+
 // How the offset of a segment is given: the field `kind`.
 
 /// offset: the offset itself, which the planner computed

@@ -670,3 +670,27 @@ pub struct Body {
     /// Its locals, a part of `locals`.
     pub locals: Span,
 }
+
+/// Where and why a module is malformed or not supported. Offsets count the bytes of the module, from
+/// 0 on.
+#[repr(C)]
+#[derive(Default)]
+pub struct Place {
+    /// The id of the section; `u32::MAX` in the header, and where no section has the id.
+    pub section: u32,
+    /// The offset of the section, which begins with its id; 0 in the header.
+    pub section_start: u32,
+    /// The entry of the section, from 0 on, where an entry is wrong; else `u32::MAX`.
+    pub entry: u32,
+    /// The offset of what is wrong; the length of the module where it ends too early.
+    pub byte: u32,
+    /// Input that begins with so many of these bytes is refused too; `u32::MAX` where the module ends
+    /// too early.
+    pub decided: u32,
+    /// What is wrong: a number from [`numbers::FAULT_HEADER`](crate::numbers::FAULT_HEADER) on.
+    pub fault: u32,
+    /// A sentence for people, in UTF-8, without a zero at the end.
+    pub(crate) sentence: List<u8>,
+    /// Whether the sentence is in memory of its own, which `bobbinazure_place_free` frees.
+    pub made: u32,
+}

@@ -1,0 +1,80 @@
+//! Where and why a module is refused.
+
+use crate::error::Error;
+use crate::rows::Place as PlaceRecord;
+use std::fmt;
+
+unsafe extern "C" {
+    fn bobbinazure_locate(bytes: *const u8, len: usize, place: *mut PlaceRecord) -> u32;
+}
+
+impl Drop for PlaceRecord {
+    fn drop(&mut self) {
+        if self.made != 0 {
+            // SAFETY: the sentence is in memory of its own, and is this record's alone.
+            unsafe { self.sentence.free() };
+        }
+    }
+}
+
+/// Where and why bytes are malformed or not supported. It displays the offset and a sentence.
+///
+/// ```
+/// let cut = b"\0asm\x01\0\0\0\x09\x05\x01"; // an element section of five bytes, of which one is there
+/// let place = bobbinazure::locate(cut)?.expect("these bytes are refused");
+/// assert_eq!((place.section, place.section_start, place.byte), (Some(9), 8, 11));
+/// assert_eq!(place.decided, None); // the rest of the section is missing
+/// # Ok::<(), bobbinazure::Error>(())
+/// ```
+#[derive(Clone, Debug, PartialEq, Eq, Hash)]
+pub struct Place {
+    /// The id of the section; `None` in the header, and where no section has the id.
+    pub section: Option<u32>,
+    /// The offset of the section, which begins with its id; 0 in the header.
+    pub section_start: u32,
+    /// The entry of the section, from 0 on, where an entry is wrong.
+    pub entry: Option<u32>,
+    /// The offset of what is wrong; the length of the input where it ends too early.
+    pub byte: u32,
+    /// Input that begins with so many of these bytes is refused too; `None` where it ends too early.
+    pub decided: Option<u32>,
+    /// What is wrong, from [`numbers::FAULT_HEADER`](crate::numbers::FAULT_HEADER) on.
+    pub fault: u32,
+    /// The section, the entry, and what is wrong, for people.
+    pub sentence: String,
+}
+
+impl fmt::Display for Place {
+    fn fmt(&self, f: &mut fmt::Formatter<'_>) -> fmt::Result {
+        write!(f, "byte {:#x}, {}", self.byte, self.sentence)
+    }
+}
+
+/// Says where and why bytes are malformed or not supported; `None` where they are read as a module, and where there are
+/// 2^30 bytes or more. It reads the bytes once more, so it is for refused modules.
+///
+/// # Errors
+/// No memory.
+pub fn locate(bytes: &[u8]) -> Result<Option<Place>, Error> {
+    let mut record = PlaceRecord::default();
+    // SAFETY: the pointers are those of borrowed values, and the record is one.
+    let status = unsafe { bobbinazure_locate(bytes.as_ptr(), bytes.len(), &mut record) };
+    match status {
+        0 => Ok(None),
+        1 => Ok(Some(place(&record))),
+        _ => Err(Error::OutOfMemory),
+    }
+}
+
+fn place(record: &PlaceRecord) -> Place {
+    let known = |number: u32| (number != u32::MAX).then_some(number);
+    Place {
+        section: known(record.section),
+        section_start: record.section_start,
+        entry: known(record.entry),
+        byte: record.byte,
+        decided: known(record.decided),
+        fault: record.fault,
+        sentence: String::from_utf8_lossy(record.sentence.as_slice()).into_owned(),
+    }
+}
