@@ -1,4 +1,5 @@
 /* json plan [OPTION].. < FILE.wasm : prints the plan of a module as one JSON object, out of the tables alone.
+ * json locate < FILE.wasm : prints where and why a module is malformed or not supported, as one line.
  *
  * keys.txt has the keys. The words and the exit status are those of the program dist/translate. */
 #include "layouts.h"
@@ -342,7 +343,22 @@ static void put_plan(const bobbinazure_plan *plan, const uint8_t *module) {
     put_context(plan);
 }
 
-static void put_refusal(const bobbinazure_plan *plan) {
+static void put_refused_at(const uint8_t *module, size_t len) {
+    bobbinazure_place place = bobbinazure_place_init();
+    if (bobbinazure_locate(module, len, &place) == BOBBINAZURE_REFUSED) {
+        open_object("place");
+        number("byte", place.byte);
+        index_or_null("section", place.section);
+        number("section_start", place.section_start);
+        index_or_null("entry", place.entry);
+        index_or_null("decided", place.decided);
+        bytes("sentence", place.sentence);
+        close_object();
+    } else null("place");
+    bobbinazure_place_free(&place);
+}
+
+static void put_refusal(const bobbinazure_plan *plan, const uint8_t *module, size_t len) {
     static const char *const causes[] = {"", "malformed", "invalid", "unsupported", "too large", "offset overflow"};
     static const char *const parts[] = {"", "component", "shared", "supertypes", "operator",
                                         "exact import", "interface types"};
@@ -351,6 +367,7 @@ static void put_refusal(const bobbinazure_plan *plan) {
     index_or_null("rule", plan->refusal == BOBBINAZURE_INVALID ? plan->refusal_detail : BOBBINAZURE_NONE);
     if (plan->refusal == BOBBINAZURE_UNSUPPORTED) word("part", parts[plan->refusal_detail]);
     else null("part");
+    put_refused_at(module, len);
     close_object();
 }
 
@@ -360,11 +377,21 @@ static int print_json(const uint8_t *module, size_t len, const bobbinazure_optio
     if (status == BOBBINAZURE_PLANNED || status == BOBBINAZURE_REFUSED) {
         open_object(0);
         if (status == BOBBINAZURE_PLANNED) put_plan(&plan, module);
-        else put_refusal(&plan);
+        else put_refusal(&plan, module, len);
         fputs("\n}\n", stdout);
         if (fflush(stdout) || ferror(stdout)) status = WRITE_FAILED;
     }
     bobbinazure_plan_free(&plan);
+    return (int)status;
+}
+
+/* Prints the place at which a module is refused, if it has one. */
+static int print_place(const uint8_t *module, size_t len) {
+    bobbinazure_place place = bobbinazure_place_init();
+    uint32_t status = bobbinazure_locate(module, len, &place);
+    if (status == BOBBINAZURE_REFUSED)
+        printf("byte 0x%" PRIx32 ", %.*s\n", place.byte, (int)place.sentence.len, (const char *)place.sentence.at);
+    bobbinazure_place_free(&place);
     return (int)status;
 }
 
@@ -414,8 +441,8 @@ static int read_module(uint8_t **module, size_t *len) {
 
 int main(int argc, char **argv) {
     bobbinazure_options options = bobbinazure_options_init();
-    int seen = 0;
-    if (argc < 2 || strcmp(argv[1], "plan")) return BOBBINAZURE_WRONG_OPTIONS;
+    int seen = 0, locates = argc == 2 && !strcmp(argv[1], "locate");
+    if (argc < 2 || (!locates && strcmp(argv[1], "plan"))) return BOBBINAZURE_WRONG_OPTIONS;
     for (int i = 2; i < argc; i++) {
         int option = set_option(&options, argv[i]);
         if (!option || (seen & option)) return BOBBINAZURE_WRONG_OPTIONS;
@@ -425,7 +452,7 @@ int main(int argc, char **argv) {
     uint8_t *module;
     size_t len;
     int status = read_module(&module, &len);
-    if (!status) status = print_json(module, len, &options);
+    if (!status) status = locates ? print_place(module, len) : print_json(module, len, &options);
     free(module);
     return status;
 }
