@@ -2,7 +2,7 @@
 
 ghost use Rattle.std.specs.Prelude.{◌≡◌, ◌≢◌, ◌⊎◌, ◌≤◌, ◌^◌, length};
 ghost use Rattle.refusal_place.specs.Places.{AreAModule};
-ghost use Rattle.planner_c.specs.Places.{HasPlace, IsPlaceStatus, TellsPlace, fault_number, place_row};
+ghost use Rattle.planner_c.specs.Places.{HasPlace, IsPlaceStatus, TellsPlace, fault_number, number_or_none};
 
 use entity_map::OutOfMemory;
 use refusal_place::{Fault, Place, SectionKind, locate};
