@@ -1,0 +1,7 @@
+use Rattle.std.proofs.Common.{refl, sym}
+use Rattle.wasm_spec.specs.Module.{data_counts_of_section}
+use Rattle.form_reader.proofs.CustomRuns.{none_listed}
+use Rattle.rule_breaks.proofs.counts.stated_in.Goals as goal
+
+pub returns-in-Customs : goal.returns-in-Customs
+returns-in-Customs c = rw c.in-Customs.is (sym (none_listed data_counts_of_section (λ name bytes. refl) c.in-Customs.field-0))

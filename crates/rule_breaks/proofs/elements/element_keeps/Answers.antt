@@ -1,0 +1,12 @@
+use Rattle.std.proofs.Common.{◌↔◌, Bool, IsTrue, sym, subst}
+use Rattle.std.specs.Prelude.{IfOk}
+use Rattle.rule_spec.specs.declared.rules.Rule.{Rule}
+use Rattle.form_data.specs.Views.{element_of}
+use Rattle.form_lists.specs.Views.{lists_of}
+use Rattle.rule_breaks.specs.Kept.{ElementKeeps}
+use Rattle.rule_breaks.proofs.elements.element_keeps.Goals as goal
+
+pub returns-in-L6 : goal.returns-in-L6
+returns-in-L6 c =
+    let Kept : Rule → Type 0 = λ r. IfOk c.element_is_typed.result (λ (kept : Bool). IsTrue kept ↔ ElementKeeps r (lists_of c.args.lists.now) (element_of c.args.element.now)) in
+    subst Kept (sym c.in-L6.is) c.element_is_typed.ensures

@@ -1,0 +1,15 @@
+use Rattle.std.proofs.Common.{◌≡◌, length}
+use Rattle.std.specs.List.{flat_map}
+use Rattle.wasm_spec.specs.Module.{exports_of_section}
+use Rattle.form_data.specs.Views.{export_of}
+use Rattle.form_lists.specs.Source.{source_module}
+use Rattle.form_lists.specs.Sections.{entries_left}
+use Rattle.form_rules.proofs.ExportNames.{Gathers}
+use Rattle.rule_breaks.proofs.exports.first_repeated.Given as goal
+
+-- the pool has the names of the exports so far, which are distinct
+abbrev pub invariant-loop-export : goal.invariant-loop-export
+invariant-loop-export l = record {
+  counted : l.number ≡ length l.pool;
+  gathers : Gathers l.pool (entries_left export_of exports_of_section l.export-iterator) (flat_map exports_of_section (source_module l.source));
+}

@@ -1,0 +1,5 @@
+pub mod Search
+pub mod Kept
+pub mod Breaks
+pub mod TypeFlags
+pub mod Worked

@@ -1,0 +1,46 @@
+//! The entry of a module that is the first to break a listed rule, for messages about modules that
+//! were refused.
+//!
+//! `check` of `form_rules` names the rule; `locate_break` names the list and the entry. It returns
+//! `None` exactly where the module satisfies the rule. Otherwise no list of the rule before this
+//! one has an entry that breaks it, and no entry of this list before this one does.
+//!
+//! ```
+//! if let Err(CheckError::Invalid(rule)) = check(alloc, &form) {
+//!     let place = locate_break(alloc, &form, rule)?;
+//!     // such as `Break { list: ModuleList::Memories, entry: 1 }`
+//! }
+//! ```
+//!
+//! Types are numbered and lists gathered again, and the lists of one rule searched once. Modules
+//! that are accepted are not searched.
+//!
+//! Read on: `forms`, `breaks`, then the file of each rule, such as `limits`; `specs/Breaks.antt`
+//! says which entry is the first.
+#![tactic(auto)]
+
+mod breaks;
+mod counts;
+mod declared;
+mod elements;
+mod entries;
+mod exports;
+mod expressions;
+mod forms;
+mod globals;
+mod indices;
+mod limits;
+mod lists;
+mod numbers;
+mod references;
+mod segments;
+#[cfg(test)]
+mod tests;
+mod types;
+mod worked;
+
+pub use breaks::first_break;
+pub use declared::first_bad_type;
+pub use forms::locate_break;
+pub use lists::{Break, ModuleList};
+pub use worked::worked_breaks;

@@ -1,0 +1,67 @@
+//! The first break of rule L10, concrete references outside the type section.
+
+ghost use Rattle.std.specs.Prelude.{◌≡◌, ◌≤◌, length, IfOk};
+ghost use Rattle.rule_spec.specs.declared.rules.Rule.{Rule};
+ghost use Rattle.form_lists.specs.Views.{lists_of};
+ghost use Rattle.form_typing.specs.Defaults.{defaults as defaults_of_types};
+ghost use Rattle.rule_breaks.specs.Breaks.{Locates};
+
+use crate::elements::first_element;
+use crate::entries::{first_body, first_import, first_table};
+use crate::globals::first_referring_global;
+use crate::lists::{Break, ModuleList};
+use crate::segments::first_segment;
+use entity_map::OutOfMemory;
+use form_lists::Lists;
+use rule_spec::Rule;
+use std::alloc::Global;
+
+/// The first entry that refers to a type that is not declared: of imports, tables, globals, element
+/// segments, bodies and data segments.
+pub(crate) fn break_of_references(
+    alloc: Global,
+    lists: &Lists<'_, '_>,
+    defaults: &[bool],
+) -> Result<Option<Break>, OutOfMemory>
+    requires imported { lists.now.imported_globals ≤ length lists.now.spaces.global_types.items }
+    requires noted { defaults.now ≡ defaults_of_types (lists_of lists.now) }
+    ensures { IfOk result (Locates Rule.L10 (lists_of lists.now)) }
+{
+    if let Some(entry) = first_import(lists)? {
+        return Ok(Some(Break {
+            list: ModuleList::Imports,
+            entry,
+        }));
+    }
+    if let Some(entry) = first_table(alloc, lists, Rule::L10, defaults)? {
+        return Ok(Some(Break {
+            list: ModuleList::Tables,
+            entry,
+        }));
+    }
+    if let Some(entry) = first_referring_global(alloc, lists)? {
+        return Ok(Some(Break {
+            list: ModuleList::Globals,
+            entry,
+        }));
+    }
+    if let Some(entry) = first_element(alloc, lists, Rule::L10, defaults)? {
+        return Ok(Some(Break {
+            list: ModuleList::Elements,
+            entry,
+        }));
+    }
+    if let Some(entry) = first_body(lists, Rule::L10)? {
+        return Ok(Some(Break {
+            list: ModuleList::Bodies,
+            entry,
+        }));
+    }
+    match first_segment(alloc, lists, Rule::L10, defaults)? {
+        Some(entry) => Ok(Some(Break {
+            list: ModuleList::Segments,
+            entry,
+        })),
+        None => Ok(None),
+    }
+}
