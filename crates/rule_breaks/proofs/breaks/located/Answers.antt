@@ -34,6 +34,3 @@ returns-in-L8 c = asked (lists_of c.args.lists.now) c.break_of_starts.result c.i
 
 pub returns-in-L9 : goal.returns-in-L9
 returns-in-L9 c = asked (lists_of c.args.lists.now) c.break_of_segments.result c.in-L9.is c.break_of_segments.ensures
-
-pub returns-in-L10 : goal.returns-in-L10
-returns-in-L10 c = asked (lists_of c.args.lists.now) c.break_of_references.result c.in-L10.is c.break_of_references.ensures
