@@ -1,5 +1,5 @@
 -- Small modules for the worked example.
-use Rattle.std.specs.Prelude.{true, false, [], ◌∷◌, None, Some}
+use Rattle.std.specs.Prelude.{false, [], ◌∷◌, None, Some}
 use Rattle.wasm_spec.specs.declared.entities.MemoryType.{MemoryType}
 use Rattle.wasm_spec.specs.Module.{Module, Memories}
 use Rattle.rule_spec.specs.WorkedKept.{one_page}

@@ -1,7 +1,6 @@
 //! The first global that breaks a rule. Globals may stay in the input.
 
-ghost use Rattle.std.specs.Prelude.{◌≡◌, ◌↔◌, ◌≤◌, length, IsTrue, IfOk};
-ghost use Rattle.form_data.specs.Views.{global_of};
+ghost use Rattle.std.specs.Prelude.{◌≡◌, length, IfOk};
 ghost use Rattle.rule_spec.specs.References.{GlobalRefersIn};
 ghost use Rattle.form_lists.specs.Views.{lists_of};
 ghost use Rattle.form_typing.specs.Defaults.{defaults as defaults_of_types};
