@@ -17,3 +17,8 @@ pub mod Refusals
 pub mod Runs
 pub mod Rows
 pub mod Records
+pub mod Lengths
+pub mod TypeTexts
+pub mod OperatorTexts
+pub mod LineTexts
+pub mod ListTexts

@@ -3,3 +3,5 @@ pub mod Same
 pub mod Kept
 pub mod Runs
 pub mod Records
+pub mod TextCosts
+pub mod Widths
