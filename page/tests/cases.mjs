@@ -62,7 +62,7 @@ function readBlock(block, before) {
     else if (key === "lines") made.counts.push({ count: Number(first), words: others.join(" ") });
     else if (key === "data") made.data.push({ place: Number(first), bytes: pieces(others.join(" ")) });
     else if (DEVICES.includes(key)) made.isOfDevices = true;
-    else if (!["planned", "reads", "writes", "read"].includes(key)) throw new Error(`a line of no known kind: ${line}`);
+    else if (!["planned", "at", "reads", "writes", "read"].includes(key)) throw new Error(`a line of no known kind: ${line}`);
   }
   return { ...made, bytes: Buffer.concat(made.bytes.map(it => Buffer.from(it))) };
 }

@@ -1,5 +1,6 @@
 //! A case: what is given to a run, and what it must give.
 
+use entity_map::OutOfMemory;
 use std::alloc::{AllocError, Global};
 
 /// Why lines are not a case.
@@ -30,6 +31,12 @@ pub fn words_of_error(error: CaseError) -> &'static str {
 
 impl From<AllocError> for CaseError {
     fn from(_error: AllocError) -> CaseError {
+        CaseError::OutOfMemory
+    }
+}
+
+impl From<OutOfMemory> for CaseError {
+    fn from(_error: OutOfMemory) -> CaseError {
         CaseError::OutOfMemory
     }
 }
@@ -66,6 +73,23 @@ pub struct DataBytes {
     pub bytes: Vec<u8>,
 }
 
+/// Where bytes are refused: an offset, and the entry of a section, where one is wrong.
+#[derive(Clone, Copy, PartialEq, Eq)]
+pub struct Spot {
+    pub byte: u64,
+    pub entry: Option<u64>,
+}
+
+/// What a case says of where its bytes are refused.
+#[derive(Clone, Copy)]
+pub enum At {
+    /// They are read whole.
+    Nowhere,
+    /// Where they end, and no entry is wrong.
+    End,
+    Spot(Spot),
+}
+
 /// What a run must give.
 #[derive(Drop)]
 pub struct Expected {
@@ -81,6 +105,8 @@ pub struct Expected {
     pub data: Vec<DataBytes>,
     /// How many bytes are read, where the case says.
     pub read: Option<u64>,
+    /// Where the bytes are refused, where the case says.
+    pub at: Option<At>,
 }
 
 #[derive(Drop)]
@@ -115,6 +141,7 @@ fn plain_expected(alloc: Global) -> Expected {
         counts: Vec::new(alloc),
         data: Vec::new(alloc),
         read: None,
+        at: None,
     }
 }
 

@@ -1,7 +1,8 @@
 //! What a run gave, compared with what it must give.
 
-use crate::case::{Case, DataBytes, Expected, LineCount};
+use crate::case::{At, Case, DataBytes, Expected, LineCount, Spot};
 use crate::running::Outcome;
+use refusal_place::Place;
 
 /// What differs from what is expected.
 #[derive(Clone, Copy)]
@@ -15,6 +16,8 @@ pub enum Difference<'a> {
     Count(&'a LineCount),
     /// The runtime data of this number differ.
     Data(u64),
+    /// The bytes are refused here, or at no place.
+    Place(Option<Place>),
 }
 
 /// Whether a line is these words, or begins with them and a space.
@@ -92,6 +95,36 @@ fn wrong_end<'a>(expected: &'a Expected, outcome: &Outcome) -> Option<Difference
     None
 }
 
+/// The spot of a place.
+fn spot_of(place: Place) -> Spot {
+    Spot {
+        byte: u64::from(place.byte),
+        entry: place.entry.map(u64::from),
+    }
+}
+
+/// The spot at which the bytes must be refused, where they must be.
+fn wanted_spot(at: At, outcome: &Outcome) -> Option<Spot> {
+    match at {
+        At::Nowhere => None,
+        At::End => Some(Spot {
+            byte: outcome.read as u64,
+            entry: None,
+        }),
+        At::Spot(spot) => Some(spot),
+    }
+}
+
+/// The place of the refusal, where the case says another.
+fn wrong_place<'a>(expected: &Expected, outcome: &Outcome) -> Option<Difference<'a>> {
+    match expected.at {
+        Some(at) if outcome.place.map(spot_of) != wanted_spot(at, outcome) => {
+            Some(Difference::Place(outcome.place))
+        }
+        _ => None,
+    }
+}
+
 /// The text that was written; empty where the bytes are not text.
 pub fn text_of(outcome: &Outcome) -> &str {
     str::from_utf8(outcome.text.as_slice()).unwrap_or("")
@@ -102,6 +135,9 @@ pub fn difference_of<'a>(case: &'a Case, outcome: &Outcome) -> Option<Difference
     let expected = &case.expected;
     let text = text_of(outcome);
     if let Some(wrong) = wrong_end(expected, outcome) {
+        return Some(wrong);
+    }
+    if let Some(wrong) = wrong_place(expected, outcome) {
         return Some(wrong);
     }
     if let Some(wrong) = missing_line(expected.lines.as_slice(), text) {

@@ -2,7 +2,9 @@
 
 use crate::case::{Case, CaseError, Given};
 use devices::{ListSink, ListSource};
+use entity_map::OutOfMemory;
 use init_plan::RuntimeBytes;
+use refusal_place::{Place, locate};
 use std::alloc::{AllocError, Global};
 use translate::{Report, run};
 
@@ -15,6 +17,8 @@ pub struct Outcome {
     pub text: Vec<u8>,
     /// The bytes of the plan's runtime data, in order.
     pub data: Vec<Vec<u8>>,
+    /// Where the bytes are refused, where the case says something of it.
+    pub place: Option<Place>,
 }
 
 fn slice_of<'a>(data: &'a RuntimeBytes<'_>) -> &'a [u8] {
@@ -36,12 +40,21 @@ fn data_of(alloc: Global, report: &Report<'_>) -> Result<Vec<Vec<u8>>, AllocErro
     Ok(all)
 }
 
-/// The run of these words. Its text is the sink's.
+/// Where the bytes are refused, where the case says something of it.
+fn place_of(alloc: Global, case: &Case, bytes: &[u8]) -> Result<Option<Place>, OutOfMemory> {
+    match case.expected.at {
+        Some(_) => locate(alloc, bytes),
+        None => Ok(None),
+    }
+}
+
+/// The run of these words over bytes that are refused at this place. Its text is the sink's.
 fn outcome_over(
     alloc: Global,
     words: &[String],
     source: &mut ListSource<'_>,
     sink: &mut ListSink<'_>,
+    place: Option<Place>,
 ) -> Result<Outcome, AllocError> {
     let mut store = Vec::new(alloc);
     let report = run(alloc, words, source, &mut store, sink);
@@ -55,6 +68,7 @@ fn outcome_over(
         read,
         text,
         data,
+        place,
     })
 }
 
@@ -70,14 +84,12 @@ pub fn outcome_of(alloc: Global, case: &Case, length: u64) -> Result<Outcome, Ca
     if given.piece == 0 || given.most == 0 {
         return Err(CaseError::NoNumber);
     }
-    let mut source = ListSource::new(
-        first_bytes(given, length),
-        given.piece,
-        given.failing_reads.as_slice(),
-    );
+    let bytes = first_bytes(given, length);
+    let place = place_of(alloc, case, bytes)?;
+    let mut source = ListSource::new(bytes, given.piece, given.failing_reads.as_slice());
     let failing = given.failing_writes.as_slice();
     let Ok(mut sink) = ListSink::new(alloc, given.room, given.most, failing) else {
         return Err(CaseError::OutOfMemory);
     };
-    Ok(outcome_over(alloc, given.words.as_slice(), &mut source, &mut sink)?)
+    Ok(outcome_over(alloc, given.words.as_slice(), &mut source, &mut sink, place)?)
 }

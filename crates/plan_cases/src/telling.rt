@@ -16,6 +16,10 @@ fn tell_difference(rt: &HostRuntime, difference: Difference<'_>) -> io::Result<(
             println!(rt; "not {} lines that begin '{}'", wanted.count, wanted.words)
         }
         Difference::Data(place) => println!(rt; "runtime data {place} are others"),
+        Difference::Place(Some(place)) => {
+            println!(rt; "refused at byte {}: {place}", place.byte)
+        }
+        Difference::Place(None) => println!(rt; "refused at no place"),
     }
 }
 
