@@ -4,4 +4,5 @@ pub mod EntryLaws
 pub mod Located
 pub mod Passing
 pub mod Placed
+pub mod WorkedPlaces
 pub mod Wrong

@@ -2,3 +2,4 @@ pub mod Found
 pub mod Kinds
 pub mod Places
 pub mod Texts
+pub mod Worked

@@ -22,7 +22,9 @@ mod numbers;
 mod place;
 mod search;
 mod sections;
+mod worked;
 
 pub use kind::SectionKind;
 pub use place::{Fault, Place};
 pub use search::locate;
+pub use worked::worked_place;

@@ -1,0 +1,22 @@
+//! Worked examples of the definitions.
+
+ghost use Rattle.std.specs.Prelude.{ℕ, take};
+ghost use Rattle.wasm_spec.specs.Grammar.{header};
+ghost use Rattle.wasm_spec.specs.TypeGrammar.{memory_type};
+ghost use Rattle.refusal_place.specs.Places.{Decides, IsFirstUnspelled, IsPlaceOf};
+ghost use Rattle.refusal_place.specs.Worked.{in_header, memory_contents, memory_bytes, at_memory, cut_bytes, at_cut};
+
+/// The place of a header that is cut, of a memory that is wrong, and of a section that is cut; and
+/// places beside these, which are not the place.
+pub fn worked_place()
+    ensures header { IsPlaceOf (take 4 header) (in_header 4) }
+    ensures not_the_byte_before { ¬ IsPlaceOf (take 4 header) (in_header 3) }
+    ensures second_memory { IsPlaceOf memory_bytes (at_memory 1 13) }
+    ensures not_the_first_memory { (byte : ℕ) → ¬ IsPlaceOf memory_bytes (at_memory 0 byte) }
+    ensures first_is_spelled { (offset : ℕ) → ¬ IsFirstUnspelled memory_type memory_contents 0 offset }
+    ensures decided { Decides memory_bytes 15 }
+    ensures not_decided { ¬ Decides memory_bytes 13 }
+    ensures cut { IsPlaceOf cut_bytes (at_cut 11 13) }
+    ensures not_a_byte_later { ¬ IsPlaceOf cut_bytes (at_cut 12 13) }
+    ensures not_another_end { ¬ IsPlaceOf cut_bytes (at_cut 11 12) }
+{}
