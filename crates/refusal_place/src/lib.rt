@@ -28,3 +28,6 @@ pub use kind::SectionKind;
 pub use place::{Fault, Place};
 pub use search::locate;
 pub use worked::worked_place;
+
+#[cfg(test)]
+mod tests;

@@ -1,0 +1,39 @@
+//! The call on three inputs, with ample memory.
+
+use crate::{Fault, Place, SectionKind, locate};
+use std::test::Fail;
+
+/// Two memories, of which the second has flags that no memory type has.
+const MEMORIES: [u8; 15] = [
+    0x00, 0x61, 0x73, 0x6D, 0x01, 0x00, 0x00, 0x00, 0x05, 0x05, 0x02, 0x00, 0x01, 0x10, 0x01,
+];
+
+/// A memory section of three bytes, of which one is there.
+const CUT: [u8; 11] = [
+    0x00, 0x61, 0x73, 0x6D, 0x01, 0x00, 0x00, 0x00, 0x05, 0x03, 0x01,
+];
+
+#[test]
+fn places_are_found(rt: HostRuntime) -> Result<(), Fail> {
+    let alloc = rt.alloc();
+    assert!(rt; locate(alloc, &MEMORIES[..8])?.is_none());
+    let memory = Place {
+        section: Some(SectionKind::Memory),
+        section_start: 8,
+        entry: Some(1),
+        byte: 13,
+        fault: Fault::Entry,
+        decided: Some(15),
+    };
+    assert!(rt; locate(alloc, &MEMORIES)? == Some(memory));
+    let cut = Place {
+        section: Some(SectionKind::Memory),
+        section_start: 8,
+        entry: None,
+        byte: 11,
+        fault: Fault::SectionEnd(13),
+        decided: None,
+    };
+    assert!(rt; locate(alloc, &CUT)? == Some(cut));
+    Ok(())
+}
