@@ -846,6 +846,13 @@ typedef struct {
     uint32_t made;
 } bobbinazure_place;
 
+/* The first rule that a module breaks, and the first entry that breaks it. */
+typedef struct {
+    uint32_t rule;  /* The rule, from 1 to 10. */
+    uint32_t list;  /* The list that has the entry: a number from BOBBINAZURE_IN_TYPES on. */
+    uint32_t entry; /* The index of the entry in that list, from 0 on. */
+} bobbinazure_broken_rule;
+
 /* The end of what embed/generate makes. */
 
 /* Plans the module that the bytes spell.

@@ -400,6 +400,11 @@ BOBBINAZURE_AT(place, fault, 20);
 BOBBINAZURE_AT(place, sentence, 24);
 BOBBINAZURE_AT(place, made, 40);
 
+BOBBINAZURE_SIZE(broken_rule, 12);
+BOBBINAZURE_AT(broken_rule, rule, 0);
+BOBBINAZURE_AT(broken_rule, list, 4);
+BOBBINAZURE_AT(broken_rule, entry, 8);
+
 #undef BOBBINAZURE_AT
 #undef BOBBINAZURE_SIZE
 #undef BOBBINAZURE_ASSERT

@@ -2,3 +2,4 @@ pub mod Calls
 pub mod Links
 pub mod Places
 pub mod Refusals
+pub mod Rules

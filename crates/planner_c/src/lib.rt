@@ -1,5 +1,5 @@
-//! The planner for C: four calls that fill records with a plan, its text, both, or the links of two
-//! modules.
+//! The planner for C: calls that fill records with a plan, its text, both, the links of two modules,
+//! or the place at which a module is refused.
 //!
 //! Each call returns 0, 1, 2 or 5, and each status has its cause. A record is filled as by
 //! `plan_tables`, and a text is that of the program.
@@ -24,6 +24,7 @@ mod options;
 mod places;
 mod planning;
 mod refusals;
+mod rules;
 mod text;
 
 pub use linking::bobbinazure_link;
@@ -31,4 +32,5 @@ pub use links::{ImportAnswerRecord, LinkRecord};
 pub use options::PlanOptions;
 pub use places::{PlaceRecord, bobbinazure_locate};
 pub use planning::{bobbinazure_make_plan, bobbinazure_make_plan_and_text, bobbinazure_make_text};
+pub use rules::{BrokenRuleRecord, bobbinazure_locate_rule};
 pub use text::TextRecord;

@@ -34,7 +34,7 @@ pub(crate) fn refusal_numbers(refusal: &TranslateError) -> (u32, u32)
     }
 }
 
-fn rule_number(rule: Rule) -> u32
+pub(crate) fn rule_number(rule: Rule) -> u32
     ensures { result ≡ rule_number rule }
 {
     match rule {

@@ -3,3 +3,4 @@ pub mod Kept
 pub mod Breaks
 pub mod TypeFlags
 pub mod Worked
+pub mod Refused

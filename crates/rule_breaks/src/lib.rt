@@ -33,6 +33,7 @@ mod limits;
 mod lists;
 mod numbers;
 mod references;
+mod refused;
 mod segments;
 #[cfg(test)]
 mod tests;
@@ -43,4 +44,5 @@ pub use breaks::first_break;
 pub use declared::first_bad_type;
 pub use forms::locate_break;
 pub use lists::{Break, ModuleList};
+pub use refused::{BrokenRule, locate_broken_rule};
 pub use worked::worked_breaks;

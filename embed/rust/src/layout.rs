@@ -397,4 +397,9 @@ laid_out! {
         sentence 24,
         made 40,
     }
+    BrokenRule: 12 {
+        rule 0,
+        list 4,
+        entry 8,
+    }
 }

@@ -694,3 +694,15 @@ pub struct Place {
     /// Whether the sentence is in memory of its own, which `bobbinazure_place_free` frees.
     pub made: u32,
 }
+
+/// The first rule that a module breaks, and the first entry that breaks it.
+#[repr(C)]
+#[derive(Clone, Copy, Debug, PartialEq, Eq, Hash, Default)]
+pub struct BrokenRule {
+    /// The rule, from 1 to 10.
+    pub rule: u32,
+    /// The list that has the entry: a number from [`numbers::IN_TYPES`](crate::numbers::IN_TYPES) on.
+    pub list: u32,
+    /// The index of the entry in that list, from 0 on.
+    pub entry: u32,
+}

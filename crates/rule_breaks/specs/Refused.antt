@@ -1,0 +1,21 @@
+-- Which rule a module breaks, and where.
+use Rattle.std.specs.Prelude.{ℕ, List, length, ◌<◌, ◌^◌}
+use Rattle.wasm_spec.specs.Module.{Module}
+use Rattle.wasm_spec.specs.Grammar.{Spells}
+use Rattle.wasm_spec.specs.Interfaces.{HasNoInterfaceTypes}
+use Rattle.rule_spec.specs.Lists.{lists_of_module}
+use Rattle.rule_spec.specs.Rules.{Keeps, KeepsBefore}
+use Rattle.rule_breaks.specs.declared.refused.BrokenRule.{BrokenRule}
+use Rattle.rule_breaks.specs.Breaks.{IsFirstBreak}
+
+-- the bytes spell a module that breaks the rule and none of a lower number, first at this entry
+pub record BreaksFirst (bytes : List ℕ) (b : BrokenRule) : Type 0 where
+  pub of : Module
+  pub spelled : Spells bytes of
+  pub no_interface_types : HasNoInterfaceTypes of
+  pub before : KeepsBefore b.rule of
+  pub first : IsFirstBreak b.rule (lists_of_module of) b.place.list b.place.entry
+
+-- a module that the bytes spell and that is read satisfies all rules
+abbrev pub KeepsIfRead : List ℕ → Type 0
+KeepsIfRead bytes = length bytes < 2 ^ 30 → (m : Module) → Spells bytes m → HasNoInterfaceTypes m → Keeps m
