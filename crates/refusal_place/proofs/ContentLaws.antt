@@ -36,7 +36,7 @@ module _ {A : Type 0} (read : Reader A) (g : Part A) (a : Agrees read g) where
       let is_read : read bytes ≡ Ok (x, rest) = rw parts (a.again front x rest s) in
       absurd cc
 
-  lists : (contents : List ℕ) (entry offset count : ℕ) (rest : List ℕ) → ReadsUpTo read contents entry offset count rest
+  pub lists : (contents : List ℕ) (entry offset count : ℕ) (rest : List ℕ) → ReadsUpTo read contents entry offset count rest
       → Lists g contents entry offset count rest
   lists contents entry offset count rest u =
       let n = (unsigned_agrees 32).found contents count u.first u.counts in

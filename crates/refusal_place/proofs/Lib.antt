@@ -1,6 +1,9 @@
 pub mod AfterId
 pub mod ContentLaws
 pub mod EntryLaws
+pub mod EntryPlaces
+pub mod EntrySearch
+pub mod IdLaws
 pub mod Located
 pub mod Passing
 pub mod Placed

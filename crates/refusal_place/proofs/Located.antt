@@ -55,7 +55,7 @@ header_place bytes offset o = record {
 abbrev pub bytes_from : List ℕ → ℕ → List ℕ
 bytes_from bytes start = take (length bytes - start) (drop start bytes)
 
-from_is : (bytes : List ℕ) (start : ℕ) → bytes_from bytes start ≡ drop start bytes
+pub from_is : (bytes : List ℕ) (start : ℕ) → bytes_from bytes start ≡ drop start bytes
 from_is bytes start = take_all (length bytes - start) (drop start bytes) (omega (arith, length-drop start bytes))
 
 pub header_is_read : (bytes : List ℕ) → starts_with nat_eq bytes header ≡ true → IsReadTo bytes 8 0 (bytes_from bytes 8)

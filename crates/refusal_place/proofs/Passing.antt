@@ -22,7 +22,7 @@ use Rattle.refusal_place.specs.Places.{AreAModule, Decides, IsUnread, IsUnspelle
 
 -- ---- one more section
 
-sections_more : (before : Module) (place next : ℕ) (front one : List ℕ) (p : Payload) → SpellsSections place next front before
+pub sections_more : (before : Module) (place next : ℕ) (front one : List ℕ) (p : Payload) → SpellsSections place next front before
     → (grammar.section (place + length front) (order_after_all next before)).spells one p → SpellsSections place next (front ++ one) (before ++ p ∷ [])
 sections_more [] place next front one p s is =
     let same : place + length front ≡ place = rw s (omega arith) in
@@ -38,7 +38,7 @@ sections_more (q ∷ qs) place next front one p (f, b, parts, first, later) is =
       sections_more qs (place + length f) (next_order next q) b one p later here,
     )
 
-order_more : (before : Module) (next : ℕ) (p : Payload) → order_after_all next (before ++ p ∷ []) ≡ next_order (order_after_all next before) p
+pub order_more : (before : Module) (next : ℕ) (p : Payload) → order_after_all next (before ++ p ∷ []) ≡ next_order (order_after_all next before) p
 order_more [] next p = refl
 order_more (q ∷ qs) next p = order_more qs (next_order next q) p
 

@@ -46,12 +46,12 @@ size_is_wrong start k sized f e = record {
 
 -- ---- where the fault is in the contents
 
-lists_within : {A : Type 0} (part : Part A) (contents : List ℕ) (entry offset count : ℕ) (rest : List ℕ) → Lists part contents entry offset count rest
+pub lists_within : {A : Type 0} (part : Part A) (contents : List ℕ) (entry offset count : ℕ) (rest : List ℕ) → Lists part contents entry offset count rest
     → offset ≤ length contents
 lists_within part contents entry offset count rest l =
     omega (arith, l.offset_is, ap length l.parts, length-append l.number (l.front ++ rest), length-append l.front rest)
 
-of_entries : (k : SectionKind) (P : (A : Type 0) → Part A → Type 0) (Q : Type 0) → ((A : Type 0) (part : Part A) → P A part → Q) → OfEntries k P → Q
+pub of_entries : (k : SectionKind) (P : (A : Type 0) → Part A → Type 0) (Q : Type 0) → ((A : Type 0) (part : Part A) → P A part → Q) → OfEntries k P → Q
 of_entries kind.Type P Q h p = h _ _ p
 of_entries kind.Import P Q h p = h _ _ p
 of_entries kind.Function P Q h p = h _ _ p

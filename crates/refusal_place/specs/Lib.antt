@@ -1,3 +1,5 @@
+pub mod Entries
+pub mod EntryFound
 pub mod Found
 pub mod Kinds
 pub mod Places

@@ -66,7 +66,7 @@ pub(crate) fn entries_fault<'d, E: Entry<'d>>(
 }
 
 /// Passes an entry; where it is not read, says why.
-fn pass_entry<'d, E: Entry<'d>>(
+pub(crate) fn pass_entry<'d, E: Entry<'d>>(
     alloc: Global,
     cursor: &mut Cursor<'d>,
 ) -> Result<Option<Fault>, OutOfMemory>

@@ -11,11 +11,14 @@
 //!
 //! It takes the time of reading once more, and memory for one entry at a time.
 //!
+//! `entry_place` says where an entry begins, for entries that are read and break a rule.
+//!
 //! Read on: `place` has the record and its sentences, `search` the call; `form_reader` reads.
 #![tactic(auto)]
 
 mod contents;
 mod entries;
+mod entry;
 mod header;
 mod kind;
 mod numbers;
@@ -24,6 +27,7 @@ mod search;
 mod sections;
 mod worked;
 
+pub use entry::entry_place;
 pub use kind::SectionKind;
 pub use place::{Fault, Place};
 pub use search::locate;

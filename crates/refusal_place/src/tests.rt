@@ -1,6 +1,6 @@
-//! The call on three inputs, with ample memory.
+//! Each call on small inputs, with ample memory.
 
-use crate::{Fault, Place, SectionKind, locate};
+use crate::{Fault, Place, SectionKind, entry_place, locate};
 use std::test::Fail;
 
 /// Two memories, of which the second has flags that no memory type has.
@@ -35,5 +35,13 @@ fn places_are_found(rt: HostRuntime) -> Result<(), Fail> {
         decided: None,
     };
     assert!(rt; locate(alloc, &CUT)? == Some(cut));
+    Ok(())
+}
+
+#[test]
+fn entries_are_found(rt: HostRuntime) -> Result<(), Fail> {
+    let alloc = rt.alloc();
+    assert!(rt; entry_place(alloc, &MEMORIES, SectionKind::Memory, 1)? == Some(13));
+    assert!(rt; entry_place(alloc, &MEMORIES, SectionKind::Memory, 2)?.is_none());
     Ok(())
 }

@@ -1,0 +1,117 @@
+-- Where an entry of a section begins.
+use Rattle.std.proofs.Common.{◌≡◌, ℕ, ◌+◌, ◌-◌, ◌<◌, ◌≤◌, List, ◌∷◌, ◌++◌, length, take, drop, Option, Some, None, Result, Ok, Err, refl, sym, ap, subst, ◌∙◌, arith, inl, inr}
+use Rattle.std.specs.Prelude.{IfOk}
+use Rattle.std.proofs.lemmas.List.{length-append, length-take, take-append-drop}
+use Rattle.wasm_spec.specs.Parts.{Part}
+use Rattle.wasm_spec.specs.Numbers.{SpellsUnsigned}
+use Rattle.form_reader.specs.Reading.{Bad, Reader}
+use Rattle.form_reader.specs.ReadingNumbers.{unsigned_at}
+use Rattle.form_reader.specs.Agrees.{Agrees}
+use Rattle.form_reader.specs.NumberLaws.{unsigned_agrees}
+use Rattle.refusal_place.specs.declared.kind.SectionKind.{SectionKind}
+use Rattle.refusal_place.specs.declared.place.Fault.{Fault}
+use Rattle.refusal_place.specs.Kinds.{id_of, OfEntries}
+use Rattle.refusal_place.specs.Places.{HasContents}
+use Rattle.refusal_place.specs.Found.{IsEntryRead, ReadsUpTo}
+use Rattle.refusal_place.specs.Entries.{HasEntry}
+use Rattle.refusal_place.specs.EntryFound.{IsEntryFound, IsEntryIn, IsEntryInSection}
+use Rattle.refusal_place.proofs.ContentLaws.{lists, no_number, wrong_entries}
+use Rattle.refusal_place.proofs.EntryLaws.{unread_entry}
+use Rattle.refusal_place.proofs.Wrong.{lists_within, of_entries}
+
+-- ---- in a list
+
+module _ {A : Type 0} (read : Reader A) where
+  -- an entry before is not read
+  pub after_unread : (contents : List ℕ) (entry earlier count : ℕ) (rest new : List ℕ) (f : Fault) → IsEntryRead read rest new (Some f)
+      → earlier < entry → entry < count → ReadsUpTo read contents earlier (length contents - length rest) count rest
+      → IsEntryFound read contents entry None
+  after_unread contents entry earlier count rest new f r l m u = inr (inr (record {
+    fault = f;
+    earlier = earlier;
+    offset = length contents - length rest;
+    unread = unread_entry read contents earlier count rest new f r (omega (arith, l, m)) u;
+    is_earlier = l;
+  }))
+
+module _ {A : Type 0} (read : Reader A) (g : Part A) (a : Agrees read g) (k : SectionKind)
+    (of : (P : (B : Type 0) → Part B → Type 0) → P A g → OfEntries k P) where
+  entry_in : (contents : List ℕ) (entry : ℕ) (o : Option ℕ) → IsEntryFound read contents entry o → IsEntryIn k contents entry o
+  entry_in contents entry (Some offset) u = of (λ B p. HasEntry p contents entry offset) (record {
+    count = u.count;
+    rest = u.rest;
+    lists = lists read g a contents entry offset u.count u.rest u.up_to;
+    listed = u.listed;
+  })
+  entry_in contents entry None (inl e) = inr (inl (no_number contents e))
+  entry_in contents entry None (inr (inl u)) =
+      let n = (unsigned_agrees 32).found contents u.count u.rest u.counts in
+      inr (inr (inl (record { number = n.0; rest = u.rest; count = u.count; parts = n.1; counts = n.2; few = u.few })))
+  entry_in contents entry None (inr (inr u)) = inr (inr (inr (record {
+    fault = u.fault;
+    earlier = u.earlier;
+    offset = u.offset;
+    wrong = wrong_entries read g a k of contents u.fault (Some u.earlier) u.offset u.unread;
+    is_earlier = u.is_earlier;
+  })))
+
+  -- the same of what a function returned
+  pub found_entry : {E : Type 0} (l : SectionKind) (contents : List ℕ) (entry : ℕ) (r : Result (Option ℕ) E) → k ≡ l
+      → IfOk r (IsEntryFound read contents entry) → IfOk r (IsEntryIn l contents entry)
+  found_entry l contents entry (Ok o) same u = subst (λ m. IsEntryIn m contents entry o) same (entry_in contents entry o u)
+  found_entry l contents entry (Err e) same u = tt
+
+-- ---- in a section
+
+pub entry_within : (k : SectionKind) (contents : List ℕ) (entry offset : ℕ) → IsEntryIn k contents entry (Some offset) → offset ≤ length contents
+entry_within k contents entry offset is =
+    of_entries k (λ A part. HasEntry part contents entry offset) (offset ≤ length contents)
+    (λ A part here. lists_within part contents entry offset here.count here.rest here.lists) is
+
+module _ (k : SectionKind) (sized : List ℕ) (size : ℕ) (rest : List ℕ) (read : unsigned_at 32 sized ≡ Ok (size, rest)) where
+  abbrev number : (front : List ℕ) × (sized ≡ front ++ rest) × SpellsUnsigned 32 front size
+  number = (unsigned_agrees 32).found sized size rest read
+
+  pub number_length : length sized ≡ length number.0 + length rest
+  number_length = omega (arith, ap length number.1, length-append number.0 rest)
+
+  pub short : (entry : ℕ) → length rest < size → IsEntryInSection k (id_of k ∷ sized) entry None
+  short entry l = inr (inl (record {
+    number = number.0;
+    after = rest;
+    size = size;
+    parts = ap (λ (l : List ℕ). id_of k ∷ l) number.1;
+    size_is = number.2;
+    short = l;
+  }))
+
+  module _ (fits : size ≤ length rest) where
+    contents_long : length (take size rest) ≡ size
+    contents_long = omega (arith, length-take size rest, fits)
+
+    has_contents : HasContents k (id_of k ∷ sized) (take size rest) (1 + (length sized - length rest))
+    has_contents = record {
+      number = number.0;
+      later = drop size rest;
+      parts = ap (λ (l : List ℕ). id_of k ∷ l) (number.1 ∙ ap (λ (l : List ℕ). number.0 ++ l) (sym (take-append-drop size rest)));
+      size_is = subst (SpellsUnsigned 32 number.0) (sym contents_long) number.2;
+      offset_is = omega (arith, number_length);
+    }
+
+    pub entry_of : (entry offset : ℕ) → IsEntryIn k (take size rest) entry (Some offset)
+        → IsEntryInSection k (id_of k ∷ sized) entry (Some (1 + (length sized - length rest) + offset))
+    entry_of entry offset is = record {
+      contents = take size rest;
+      before = 1 + (length sized - length rest);
+      offset = offset;
+      has = has_contents;
+      entry_is = is;
+      distance_is = refl;
+      within = omega (arith, number_length, contents_long, entry_within k (take size rest) entry offset is);
+    }
+
+    pub none_of : (entry : ℕ) → IsEntryIn k (take size rest) entry None → IsEntryInSection k (id_of k ∷ sized) entry None
+    none_of entry none = inr (inr (take size rest, 1 + (length sized - length rest), has_contents, none))
+
+pub no_size : (k : SectionKind) (sized : List ℕ) (entry : ℕ) → unsigned_at 32 sized ≡ Err Bad → IsEntryInSection k (id_of k ∷ sized) entry None
+no_size k sized entry e = inl (sized, refl, no_number sized e)
