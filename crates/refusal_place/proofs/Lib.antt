@@ -7,5 +7,6 @@ pub mod IdLaws
 pub mod Located
 pub mod Passing
 pub mod Placed
+pub mod WorkedEntries
 pub mod WorkedPlaces
 pub mod Wrong

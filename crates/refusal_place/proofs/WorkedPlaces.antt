@@ -65,10 +65,10 @@ spelled bytes n e =
 abbrev one_page : MemoryType
 one_page = record { memory64 = false; shared = false; initial = 1; maximum = None; page_size_log2 = None }
 
-abbrev memory_section : List ℕ
+abbrev pub memory_section : List ℕ
 memory_section = 0x05 ∷ 0x05 ∷ memory_contents
 
-second_unread : IsFirstUnread Bad memory_type.read memory_contents 1 3
+pub second_unread : IsFirstUnread Bad memory_type.read memory_contents 1 3
 unfolding memory_type flagged_memory_type elements_at found_at unsigned_at
 second_unread = record {
   count = 2;
@@ -90,13 +90,19 @@ first_read : memory_type.read (0x00 ∷ 0x01 ∷ 0x10 ∷ 0x01 ∷ []) ≡ Ok (o
 unfolding memory_type flagged_memory_type found_at unsigned_at
 first_read = refl
 
-section_unread : (section 8 0).read memory_section ≡ Err Bad
+pub section_unread : (section 8 0).read memory_section ≡ Err Bad
 unfolding section section_contents memory_type flagged_memory_type raw_bytes_at elements_at whole found_at unsigned_at vector_at counted_bytes_at sized_at
 section_unread = refl
 
 five_is : SpellsUnsigned 32 (0x05 ∷ []) 5
 unfolding found_at unsigned_at
 five_is = spelled (0x05 ∷ []) 5 refl
+
+pub memory_has : HasContents kind.Memory memory_section memory_contents 2
+memory_has = record { number = 0x05 ∷ []; later = []; parts = refl; size_is = five_is; offset_is = refl }
+
+pub count_is : (number after : List ℕ) (n : ℕ) → memory_contents ≡ number ++ after → SpellsUnsigned 32 number n → n ≡ 2
+count_is number after n parts s = (number_is memory_contents number after (0x00 ∷ 0x01 ∷ 0x10 ∷ 0x01 ∷ []) n 2 count_read parts s).0
 
 pub second_is : IsPlaceOf memory_bytes (at_memory 1 13)
 second_is = is_place memory_bytes 8 0 (omega arith) (reads_header memory_bytes memory_section refl) (omega arith) Bad section_unread (at_memory 1 13) (
@@ -106,7 +112,7 @@ second_is = is_place memory_bytes 8 0 (omega arith) (reads_header memory_bytes m
     contents = memory_contents;
     start = 2;
     offset = 3;
-    has = record { number = 0x05 ∷ []; later = []; parts = refl; size_is = five_is; offset_is = refl };
+    has = memory_has;
     wrong = wrong_entries _ _ memory_type.agrees kind.Memory (λ P h. h) memory_contents fault.Entry (Some 1) 3 second_unread;
     section_is = refl;
     byte_is = refl;
@@ -122,7 +128,7 @@ first_is_spelled offset u =
     let f = memory_type.agrees.found (0x00 ∷ 0x01 ∷ 0x10 ∷ 0x01 ∷ []) one_page (0x10 ∷ 0x01 ∷ []) first_read in
     u.unspelled f.0 (0x10 ∷ 0x01 ∷ []) one_page (is ∙ f.1) f.2
 
-contents_are : (k : SectionKind) (contents : List ℕ) (start : ℕ) → HasContents k memory_section contents start → contents ≡ memory_contents
+pub contents_are : (k : SectionKind) (contents : List ℕ) (start : ℕ) → HasContents k memory_section contents start → contents ≡ memory_contents
 contents_are k contents start has =
     let same = number_is (0x05 ∷ memory_contents) has.number (contents ++ has.later) memory_contents (length contents) 5 size_read (ap (drop 1) has.parts) has.size_is in
     sym (take_at contents has.later 5 same.0) ∙ ap (take 5) same.1

@@ -31,7 +31,7 @@ pub use entry::entry_place;
 pub use kind::SectionKind;
 pub use place::{Fault, Place};
 pub use search::locate;
-pub use worked::worked_place;
+pub use worked::{worked_entry, worked_place};
 
 #[cfg(test)]
 mod tests;

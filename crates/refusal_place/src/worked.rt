@@ -3,6 +3,8 @@
 ghost use Rattle.std.specs.Prelude.{ℕ, take};
 ghost use Rattle.wasm_spec.specs.Grammar.{header};
 ghost use Rattle.wasm_spec.specs.TypeGrammar.{memory_type};
+ghost use Rattle.refusal_place.specs.declared.kind.SectionKind.TheVariants as kind;
+ghost use Rattle.refusal_place.specs.Entries.{IsEntryAt};
 ghost use Rattle.refusal_place.specs.Places.{Decides, IsFirstUnspelled, IsPlaceOf};
 ghost use Rattle.refusal_place.specs.Worked.{in_header, memory_contents, memory_bytes, at_memory, cut_bytes, at_cut};
 
@@ -19,4 +21,11 @@ pub fn worked_place()
     ensures cut { IsPlaceOf cut_bytes (at_cut 11 13) }
     ensures not_a_byte_later { ¬ IsPlaceOf cut_bytes (at_cut 12 13) }
     ensures not_another_end { ¬ IsPlaceOf cut_bytes (at_cut 11 12) }
+{}
+
+/// The second of two memories begins three bytes behind the start of the contents, and there is no
+/// third.
+pub fn worked_entry()
+    ensures second { IsEntryAt memory_bytes kind.Memory 1 13 }
+    ensures no_third { (byte : ℕ) → ¬ IsEntryAt memory_bytes kind.Memory 2 byte }
 {}
