@@ -72,6 +72,24 @@ enum {
     BOBBINAZURE_FAULT_UNSUPPORTED = 11      /* well formed, and not supported */
 };
 
+/* The lists of which a rule speaks: the field `list`. */
+enum {
+    BOBBINAZURE_IN_TYPES = 0,       /* the declared types */
+    BOBBINAZURE_IN_FUNCTIONS = 1,   /* the index space, imports first; so are the next three */
+    BOBBINAZURE_IN_TABLE_TYPES = 2,
+    BOBBINAZURE_IN_MEMORIES = 3,
+    BOBBINAZURE_IN_TAGS = 4,
+    BOBBINAZURE_IN_IMPORTS = 5,     /* all imports */
+    BOBBINAZURE_IN_TABLES = 6,      /* the entries of the section, from here on */
+    BOBBINAZURE_IN_GLOBALS = 7,
+    BOBBINAZURE_IN_EXPORTS = 8,
+    BOBBINAZURE_IN_STARTS = 9,
+    BOBBINAZURE_IN_ELEMENTS = 10,
+    BOBBINAZURE_IN_DATA_COUNTS = 11,
+    BOBBINAZURE_IN_BODIES = 12,
+    BOBBINAZURE_IN_SEGMENTS = 13
+};
+
 /* How the offset of a segment is given: the field `kind`. */
 enum {
     BOBBINAZURE_AT_BYTE = 0,        /* offset: the offset itself, which the planner computed */
@@ -902,6 +920,13 @@ uint32_t bobbinazure_link(const uint8_t *exporter, size_t exporter_len, const ui
  *   REFUSED        it says where and why
  *   NO_MEMORY      it is unchanged */
 uint32_t bobbinazure_locate(const uint8_t *bytes, size_t len, bobbinazure_place *place);
+
+/* Says which rule a module breaks, and which entry is the first to break it: call it after such a refusal.
+ *
+ *   PLANNED        the bytes are not read as a module, or it keeps the rules; `broken` is unchanged
+ *   REFUSED        `broken` has the rule and the entry
+ *   NO_MEMORY      it is unchanged */
+uint32_t bobbinazure_locate_rule(const uint8_t *bytes, size_t len, bobbinazure_broken_rule *broken);
 
 /* The offset in the module of bytes that a plan has from it: the code of a body, a segment, a name. */
 static inline size_t bobbinazure_offset(const uint8_t *module, bobbinazure_bytes part) {

@@ -358,6 +358,21 @@ static void put_refused_at(const uint8_t *module, size_t len) {
     bobbinazure_place_free(&place);
 }
 
+/* The lists of which a rule speaks, by their numbers. */
+static const char *const lists[] = {"type", "function", "table type", "memory", "tag", "import", "table",
+                                    "global", "export", "start", "element segment", "data count", "body",
+                                    "data segment"};
+
+static void put_broken_rule(const uint8_t *module, size_t len) {
+    bobbinazure_broken_rule broken = {0, 0, 0};
+    if (bobbinazure_locate_rule(module, len, &broken) == BOBBINAZURE_REFUSED) {
+        open_object("broken_by");
+        word("list", lists[broken.list]);
+        number("entry", broken.entry);
+        close_object();
+    } else null("broken_by");
+}
+
 static void put_refusal(const bobbinazure_plan *plan, const uint8_t *module, size_t len) {
     static const char *const causes[] = {"", "malformed", "invalid", "unsupported", "too large", "offset overflow"};
     static const char *const parts[] = {"", "component", "shared", "supertypes", "operator",
@@ -368,6 +383,7 @@ static void put_refusal(const bobbinazure_plan *plan, const uint8_t *module, siz
     if (plan->refusal == BOBBINAZURE_UNSUPPORTED) word("part", parts[plan->refusal_detail]);
     else null("part");
     put_refused_at(module, len);
+    put_broken_rule(module, len);
     close_object();
 }
 
@@ -385,13 +401,19 @@ static int print_json(const uint8_t *module, size_t len, const bobbinazure_optio
     return (int)status;
 }
 
-/* Prints the place at which a module is refused, if it has one. */
+/* Prints the place at which a module is refused, or the entry that breaks a rule, if there is one. */
 static int print_place(const uint8_t *module, size_t len) {
     bobbinazure_place place = bobbinazure_place_init();
+    bobbinazure_broken_rule broken = {0, 0, 0};
     uint32_t status = bobbinazure_locate(module, len, &place);
     if (status == BOBBINAZURE_REFUSED)
         printf("byte 0x%" PRIx32 ", %.*s\n", place.byte, (int)place.sentence.len, (const char *)place.sentence.at);
     bobbinazure_place_free(&place);
+    if (status == BOBBINAZURE_PLANNED) {
+        status = bobbinazure_locate_rule(module, len, &broken);
+        if (status == BOBBINAZURE_REFUSED)
+            printf("rule L%" PRIu32 " is broken by %s %" PRIu32 "\n", broken.rule, lists[broken.list], broken.entry);
+    }
     return (int)status;
 }
 

@@ -46,10 +46,10 @@ pub use error::{Error, Reason};
 pub use expressions::{ConstExpr, ConstOp};
 pub use interned::{GcLayout, GcLayoutKind};
 pub use links::{Answer, LinkError, link};
-pub use places::{Place, locate};
+pub use places::{Place, locate, locate_rule};
 pub use plan::{Plan, plan_and_text, text};
 pub use rows::{
-    BranchHint, Context, Entities, Field, FuncRefLayout, FunctionImportLayout, Global, GlobalDefinitionLayout, GlobalImportLayout, LayoutField, Memory,
+    BranchHint, BrokenRule, Context, Entities, Field, FuncRefLayout, FunctionImportLayout, Global, GlobalDefinitionLayout, GlobalImportLayout, LayoutField, Memory,
     MemoryDefinitionLayout, MemoryImportLayout, Operator, Options, StaticContextLayout, StoreContextLayout, Structs, Table, TableDefinitionLayout,
     TableImportLayout, Tag, TagDefinitionLayout, TagImportLayout, Trampoline, Value,
 };

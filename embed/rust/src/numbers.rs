@@ -64,6 +64,37 @@ pub const FAULT_REMAINDER: u32 = 10;
 /// well formed, and not supported
 pub const FAULT_UNSUPPORTED: u32 = 11;
 
+// The lists of which a rule speaks: the field `list`.
+
+/// the declared types
+pub const IN_TYPES: u32 = 0;
+/// the index space, imports first; so are the next three
+pub const IN_FUNCTIONS: u32 = 1;
+/// in table types
+pub const IN_TABLE_TYPES: u32 = 2;
+/// in memories
+pub const IN_MEMORIES: u32 = 3;
+/// in tags
+pub const IN_TAGS: u32 = 4;
+/// all imports
+pub const IN_IMPORTS: u32 = 5;
+/// the entries of the section, from here on
+pub const IN_TABLES: u32 = 6;
+/// in globals
+pub const IN_GLOBALS: u32 = 7;
+/// in exports
+pub const IN_EXPORTS: u32 = 8;
+/// in starts
+pub const IN_STARTS: u32 = 9;
+/// in elements
+pub const IN_ELEMENTS: u32 = 10;
+/// in data counts
+pub const IN_DATA_COUNTS: u32 = 11;
+/// in bodies
+pub const IN_BODIES: u32 = 12;
+/// in segments
+pub const IN_SEGMENTS: u32 = 13;
+
 // How the offset of a segment is given: the field `kind`.
 
 /// offset: the offset itself, which the planner computed

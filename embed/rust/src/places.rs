@@ -1,11 +1,12 @@
 //! Where and why a module is refused.
 
 use crate::error::Error;
-use crate::rows::Place as PlaceRecord;
+use crate::rows::{BrokenRule, Place as PlaceRecord};
 use std::fmt;
 
 unsafe extern "C" {
     fn bobbinazure_locate(bytes: *const u8, len: usize, place: *mut PlaceRecord) -> u32;
+    fn bobbinazure_locate_rule(bytes: *const u8, len: usize, broken: *mut BrokenRule) -> u32;
 }
 
 impl Drop for PlaceRecord {
@@ -76,5 +77,27 @@ fn place(record: &PlaceRecord) -> Place {
         decided: known(record.decided),
         fault: record.fault,
         sentence: String::from_utf8_lossy(record.sentence.as_slice()).into_owned(),
+    }
+}
+
+/// Says which rule a module breaks, and which entry is the first to break it; `None` where the bytes are not read as a
+/// module, and where it keeps the rules. For modules that were refused as invalid.
+///
+/// # Errors
+/// No memory.
+///
+/// ```
+/// let module = b"\0asm\x01\0\0\0\x05\x07\x02\x00\x01\x01\x03\x02\x01"; // the second memory has a maximum below its minimum
+/// let broken = bobbinazure::locate_rule(module)?.expect("it breaks a rule");
+/// assert_eq!((broken.rule, broken.list, broken.entry), (4, bobbinazure::numbers::IN_MEMORIES, 1));
+/// # Ok::<(), bobbinazure::Error>(())
+/// ```
+pub fn locate_rule(bytes: &[u8]) -> Result<Option<BrokenRule>, Error> {
+    let mut broken = BrokenRule::default();
+    // SAFETY: the pointers are those of borrowed values, and the record is one.
+    match unsafe { bobbinazure_locate_rule(bytes.as_ptr(), bytes.len(), &mut broken) } {
+        0 => Ok(None),
+        1 => Ok(Some(broken)),
+        _ => Err(Error::OutOfMemory),
     }
 }
