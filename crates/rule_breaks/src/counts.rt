@@ -10,7 +10,7 @@ ghost use Rattle.rule_breaks.specs.Search.{Finds};
 ghost use Rattle.rule_breaks.specs.Breaks.{FindsBodyCount, Locates};
 
 use crate::entries::first_body;
-use crate::lists::{Break, ModuleList};
+use crate::lists::{Break, ModuleList, at};
 use crate::numbers::{next_number, numbered};
 use crate::segments::count_segments;
 use entity_map::OutOfMemory;
@@ -33,16 +33,10 @@ pub(crate) fn break_of_counts(
     }
     let count = count_segments(alloc, lists.source)?;
     if let Some(entry) = first_other_count(lists.source, count)? {
-        return Ok(Some(Break {
-            list: ModuleList::DataCounts,
-            entry,
-        }));
+        return Ok(at(ModuleList::DataCounts, entry));
     }
     match first_body(lists, Rule::L3)? {
-        Some(entry) => Ok(Some(Break {
-            list: ModuleList::Bodies,
-            entry,
-        })),
+        Some(entry) => Ok(at(ModuleList::Bodies, entry)),
         None => Ok(None),
     }
 }

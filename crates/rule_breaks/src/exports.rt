@@ -11,7 +11,7 @@ ghost use Rattle.form_lists.specs.Views.{lists_of};
 ghost use Rattle.rule_breaks.specs.Breaks.{FindsRepeated, Locates};
 
 use crate::entries::first_export;
-use crate::lists::{Break, ModuleList};
+use crate::lists::{Break, ModuleList, at};
 use crate::numbers::next_number;
 use entity_map::{NameDigest, OutOfMemory, StringPool};
 use form_data::Export;
@@ -27,16 +27,10 @@ pub(crate) fn break_of_exports(
     ensures { IfOk result (Locates Rule.L7 (lists_of lists.now)) }
 {
     if let Some(entry) = first_export(lists)? {
-        return Ok(Some(Break {
-            list: ModuleList::Exports,
-            entry,
-        }));
+        return Ok(at(ModuleList::Exports, entry));
     }
     match first_repeated(alloc, lists.source)? {
-        Some(entry) => Ok(Some(Break {
-            list: ModuleList::Exports,
-            entry,
-        })),
+        Some(entry) => Ok(at(ModuleList::Exports, entry)),
         None => Ok(None),
     }
 }

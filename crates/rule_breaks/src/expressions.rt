@@ -10,7 +10,7 @@ ghost use Rattle.rule_breaks.specs.Breaks.{Locates};
 use crate::elements::first_element;
 use crate::entries::first_table;
 use crate::globals::first_untyped_global;
-use crate::lists::{Break, ModuleList};
+use crate::lists::{Break, ModuleList, at};
 use crate::segments::first_segment;
 use entity_map::OutOfMemory;
 use form_lists::Lists;
@@ -28,10 +28,7 @@ pub(crate) fn break_of_tables(
     ensures { IfOk result (Locates Rule.L5 (lists_of lists.now)) }
 {
     match first_table(alloc, lists, Rule::L5, defaults)? {
-        Some(entry) => Ok(Some(Break {
-            list: ModuleList::Tables,
-            entry,
-        })),
+        Some(entry) => Ok(at(ModuleList::Tables, entry)),
         None => Ok(None),
     }
 }
@@ -47,28 +44,16 @@ pub(crate) fn break_of_expressions(
     ensures { IfOk result (Locates Rule.L6 (lists_of lists.now)) }
 {
     if let Some(entry) = first_table(alloc, lists, Rule::L6, defaults)? {
-        return Ok(Some(Break {
-            list: ModuleList::Tables,
-            entry,
-        }));
+        return Ok(at(ModuleList::Tables, entry));
     }
     if let Some(entry) = first_untyped_global(alloc, lists, defaults)? {
-        return Ok(Some(Break {
-            list: ModuleList::Globals,
-            entry,
-        }));
+        return Ok(at(ModuleList::Globals, entry));
     }
     if let Some(entry) = first_element(alloc, lists, Rule::L6, defaults)? {
-        return Ok(Some(Break {
-            list: ModuleList::Elements,
-            entry,
-        }));
+        return Ok(at(ModuleList::Elements, entry));
     }
     match first_segment(alloc, lists, Rule::L6, defaults)? {
-        Some(entry) => Ok(Some(Break {
-            list: ModuleList::Segments,
-            entry,
-        })),
+        Some(entry) => Ok(at(ModuleList::Segments, entry)),
         None => Ok(None),
     }
 }

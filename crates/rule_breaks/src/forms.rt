@@ -9,7 +9,7 @@ ghost use Rattle.rule_breaks.specs.Breaks.{IsFirstBreak, Locates};
 
 use crate::breaks::located;
 use crate::declared::first_bad_type;
-use crate::lists::{Break, ModuleList};
+use crate::lists::{Break, ModuleList, at};
 use entity_map::OutOfMemory;
 use form_data::Form;
 use form_lists::{DeclaredTypes, Source, gather_lists};
@@ -47,10 +47,7 @@ fn break_of_declared(alloc: Global, form: &Form<'_>) -> Result<Option<Break>, Ou
     ensures { IfOk result (Locates Rule.L1 (lists_of_module (module_of form.now))) }
 {
     match first_bad_type(alloc, Source::Form(form))? {
-        Some(entry) => Ok(Some(Break {
-            list: ModuleList::Types,
-            entry,
-        })),
+        Some(entry) => Ok(at(ModuleList::Types, entry)),
         None => Ok(None),
     }
 }

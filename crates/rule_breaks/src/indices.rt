@@ -12,7 +12,7 @@ ghost use Rattle.rule_breaks.specs.Search.{Finds};
 ghost use Rattle.rule_breaks.specs.Breaks.{Locates};
 
 use crate::elements::first_element;
-use crate::lists::{Break, ModuleList};
+use crate::lists::{Break, ModuleList, at};
 use crate::numbers::next_number;
 use crate::segments::first_segment;
 use entity_map::OutOfMemory;
@@ -27,10 +27,7 @@ pub(crate) fn break_of_starts(lists: &Lists<'_, '_>) -> Result<Option<Break>, Ou
     ensures { IfOk result (Locates Rule.L8 (lists_of lists.now)) }
 {
     match first_start(lists)? {
-        Some(entry) => Ok(Some(Break {
-            list: ModuleList::Starts,
-            entry,
-        })),
+        Some(entry) => Ok(at(ModuleList::Starts, entry)),
         None => Ok(None),
     }
 }
@@ -73,16 +70,10 @@ pub(crate) fn break_of_segments(
     ensures { IfOk result (Locates Rule.L9 (lists_of lists.now)) }
 {
     if let Some(entry) = first_element(alloc, lists, Rule::L9, defaults)? {
-        return Ok(Some(Break {
-            list: ModuleList::Elements,
-            entry,
-        }));
+        return Ok(at(ModuleList::Elements, entry));
     }
     match first_segment(alloc, lists, Rule::L9, defaults)? {
-        Some(entry) => Ok(Some(Break {
-            list: ModuleList::Segments,
-            entry,
-        })),
+        Some(entry) => Ok(at(ModuleList::Segments, entry)),
         None => Ok(None),
     }
 }

@@ -7,7 +7,7 @@ ghost use Rattle.form_lists.specs.Views.{lists_of};
 ghost use Rattle.rule_breaks.specs.Search.{Finds};
 ghost use Rattle.rule_breaks.specs.Breaks.{Locates};
 
-use crate::lists::{Break, ModuleList};
+use crate::lists::{Break, ModuleList, at};
 use crate::numbers::next_number;
 use entity_map::OutOfMemory;
 use form_lists::Lists;
@@ -20,16 +20,10 @@ pub(crate) fn break_of_limits(lists: &Lists<'_, '_>) -> Result<Option<Break>, Ou
     ensures { IfOk result (Locates Rule.L4 (lists_of lists.now)) }
 {
     if let Some(entry) = first_unordered(&lists.spaces.table_types)? {
-        return Ok(Some(Break {
-            list: ModuleList::TableTypes,
-            entry,
-        }));
+        return Ok(at(ModuleList::TableTypes, entry));
     }
     match first_without_limits(&lists.spaces.memories)? {
-        Some(entry) => Ok(Some(Break {
-            list: ModuleList::Memories,
-            entry,
-        })),
+        Some(entry) => Ok(at(ModuleList::Memories, entry)),
         None => Ok(None),
     }
 }

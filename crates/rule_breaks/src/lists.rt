@@ -1,5 +1,7 @@
 //! Where a rule is broken: an entry of a list.
 
+ghost use Rattle.std.specs.Prelude.{◌≡◌};
+
 /// A list of a module that a rule speaks of. Each is a field of `Lists` of `rule_spec`.
 #[derive(Clone, Copy, Debug, PartialEq, Eq)]
 pub enum ModuleList {
@@ -39,4 +41,11 @@ pub struct Break {
     pub list: ModuleList,
     /// Its index in the list, from 0.
     pub entry: u32,
+}
+
+/// The entry of the list, as a break.
+pub(crate) fn at(list: ModuleList, entry: u32) -> Option<Break>
+    ensures { result ≡ Some (record { list = list; entry = entry }) }
+{
+    Some(Break { list, entry })
 }

@@ -9,7 +9,7 @@ ghost use Rattle.rule_breaks.specs.Breaks.{Locates};
 use crate::elements::first_element;
 use crate::entries::{first_body, first_import, first_table};
 use crate::globals::first_referring_global;
-use crate::lists::{Break, ModuleList};
+use crate::lists::{Break, ModuleList, at};
 use crate::segments::first_segment;
 use entity_map::OutOfMemory;
 use form_lists::Lists;
@@ -28,40 +28,22 @@ pub(crate) fn break_of_references(
     ensures { IfOk result (Locates Rule.L10 (lists_of lists.now)) }
 {
     if let Some(entry) = first_import(lists)? {
-        return Ok(Some(Break {
-            list: ModuleList::Imports,
-            entry,
-        }));
+        return Ok(at(ModuleList::Imports, entry));
     }
     if let Some(entry) = first_table(alloc, lists, Rule::L10, defaults)? {
-        return Ok(Some(Break {
-            list: ModuleList::Tables,
-            entry,
-        }));
+        return Ok(at(ModuleList::Tables, entry));
     }
     if let Some(entry) = first_referring_global(alloc, lists)? {
-        return Ok(Some(Break {
-            list: ModuleList::Globals,
-            entry,
-        }));
+        return Ok(at(ModuleList::Globals, entry));
     }
     if let Some(entry) = first_element(alloc, lists, Rule::L10, defaults)? {
-        return Ok(Some(Break {
-            list: ModuleList::Elements,
-            entry,
-        }));
+        return Ok(at(ModuleList::Elements, entry));
     }
     if let Some(entry) = first_body(lists, Rule::L10)? {
-        return Ok(Some(Break {
-            list: ModuleList::Bodies,
-            entry,
-        }));
+        return Ok(at(ModuleList::Bodies, entry));
     }
     match first_segment(alloc, lists, Rule::L10, defaults)? {
-        Some(entry) => Ok(Some(Break {
-            list: ModuleList::Segments,
-            entry,
-        })),
+        Some(entry) => Ok(at(ModuleList::Segments, entry)),
         None => Ok(None),
     }
 }

@@ -7,7 +7,7 @@ ghost use Rattle.form_lists.specs.Views.{lists_of};
 ghost use Rattle.rule_breaks.specs.Search.{Finds};
 ghost use Rattle.rule_breaks.specs.Breaks.{Locates};
 
-use crate::lists::{Break, ModuleList};
+use crate::lists::{Break, ModuleList, at};
 use crate::numbers::next_number;
 use entity_map::OutOfMemory;
 use form_lists::Lists;
@@ -19,16 +19,10 @@ pub(crate) fn break_of_types(lists: &Lists<'_, '_>) -> Result<Option<Break>, Out
     ensures { IfOk result (Locates Rule.L2 (lists_of lists.now)) }
 {
     if let Some(entry) = first_of_no_function_type(lists, &lists.spaces.functions)? {
-        return Ok(Some(Break {
-            list: ModuleList::Functions,
-            entry,
-        }));
+        return Ok(at(ModuleList::Functions, entry));
     }
     match first_of_no_function_type(lists, &lists.spaces.tags)? {
-        Some(entry) => Ok(Some(Break {
-            list: ModuleList::Tags,
-            entry,
-        })),
+        Some(entry) => Ok(at(ModuleList::Tags, entry)),
         None => Ok(None),
     }
 }
