@@ -407,7 +407,7 @@ typedef struct {
 /* Locals of one type. */
 typedef struct {
     uint32_t count; /* How many locals. */
-    /* Their type. A type of the module is named by the type section: list is
+    /* Their type. In locals a type of the module is named by the type section: list is
        BOBBINAZURE_OF_SECTION, and heap is BOBBINAZURE_HEAP_DECLARED. */
     bobbinazure_value value;
 } bobbinazure_locals;
@@ -679,6 +679,13 @@ typedef struct {
     bobbinazure_span locals; /* Its locals, a part of locals. */
 } bobbinazure_body;
 
+/* The name of a local. */
+typedef struct {
+    uint32_t function;      /* The function, by its index. */
+    uint32_t local;         /* The local, by its index; the parameters come first. */
+    bobbinazure_bytes name; /* In the module's bytes, in UTF-8. */
+} bobbinazure_local_name;
+
 /* A plan, or why there is none. */
 typedef struct {
     /* Why the module is refused, from BOBBINAZURE_MALFORMED on; 0 of a plan. */
@@ -797,6 +804,16 @@ typedef struct {
     BOBBINAZURE_LIST(bobbinazure_body) bodies;
     /* The locals of bodies, end to end, in runs of one type. */
     BOBBINAZURE_LIST(bobbinazure_locals) locals;
+    /* How many functions are imported. */
+    uint32_t imported_func_count;
+    /* The names of locals, by functions and then by locals; the next two are empty too without
+       native_debug. */
+    BOBBINAZURE_LIST(bobbinazure_local_name) local_names;
+    /* Of each defined function its locals, a part of the next list. Its parameters are those of
+       its type, as of functions. */
+    BOBBINAZURE_LIST(bobbinazure_span) function_metadata;
+    /* The locals of functions, end to end, in runs of one interned type. */
+    BOBBINAZURE_LIST(bobbinazure_locals) metadata_locals;
 } bobbinazure_plan;
 
 /* Each list of a plan. */
@@ -814,7 +831,8 @@ typedef struct {
     EACH(element_items.functions) EACH(element_items.expressions.parts) \
     EACH(element_items.expressions.operators) EACH(passive_items.rows) \
     EACH(passive_items.functions) EACH(passive_items.expressions.parts) \
-    EACH(passive_items.expressions.operators) EACH(bodies) EACH(locals)
+    EACH(passive_items.expressions.operators) EACH(bodies) EACH(locals) EACH(local_names) \
+    EACH(function_metadata) EACH(metadata_locals)
 
 /* The text of a plan, or the line of a refusal. */
 typedef struct {

@@ -310,7 +310,12 @@ BOBBINAZURE_SIZE(body, 32);
 BOBBINAZURE_AT(body, code, 0);
 BOBBINAZURE_AT(body, locals, 16);
 
-BOBBINAZURE_SIZE(plan, 1288);
+BOBBINAZURE_SIZE(local_name, 24);
+BOBBINAZURE_AT(local_name, function, 0);
+BOBBINAZURE_AT(local_name, local, 4);
+BOBBINAZURE_AT(local_name, name, 8);
+
+BOBBINAZURE_SIZE(plan, 1344);
 BOBBINAZURE_AT(plan, refusal, 0);
 BOBBINAZURE_AT(plan, refusal_detail, 4);
 BOBBINAZURE_AT(plan, refusal_line, 8);
@@ -373,6 +378,10 @@ BOBBINAZURE_AT(plan, element_items, 1128);
 BOBBINAZURE_AT(plan, passive_items, 1192);
 BOBBINAZURE_AT(plan, bodies, 1256);
 BOBBINAZURE_AT(plan, locals, 1272);
+BOBBINAZURE_AT(plan, imported_func_count, 1288);
+BOBBINAZURE_AT(plan, local_names, 1296);
+BOBBINAZURE_AT(plan, function_metadata, 1312);
+BOBBINAZURE_AT(plan, metadata_locals, 1328);
 
 BOBBINAZURE_SIZE(text, 24);
 BOBBINAZURE_AT(text, text, 0);

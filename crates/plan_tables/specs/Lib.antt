@@ -1,5 +1,6 @@
 pub mod Bodies
 pub mod Context
+pub mod Debug
 pub mod Expressions
 pub mod Facts
 pub mod Functions

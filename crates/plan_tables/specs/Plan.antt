@@ -6,6 +6,7 @@ use Rattle.plan.specs.declared.plan.Plan.{Plan}
 use Rattle.plan_tables.specs.declared.record.PlanRecord.{PlanRecord}
 use Rattle.plan_tables.specs.Bodies.{TellsBodies}
 use Rattle.plan_tables.specs.Context.{TellsContext, region_told, placed_back}
+use Rattle.plan_tables.specs.Debug.{TellsDebug}
 use Rattle.plan_tables.specs.Expressions.{TellsPlaces}
 use Rattle.plan_tables.specs.Facts.{entities_row, facts_row}
 use Rattle.plan_tables.specs.Functions.{TellsFunctions}
@@ -45,3 +46,5 @@ pub record Tells (plan : Plan) (r : PlanRecord) : Type 0 where
   -- the items of the element segments that remain to be written, and of the passive ones
   pub items : TellsItems plan.translation r.items
   pub bodies : TellsBodies plan.translation.function_body_inputs r.bodies
+  -- names of locals, and the locals of functions
+  pub debug : TellsDebug plan.translation.debuginfo r.debug

@@ -6,6 +6,7 @@ ghost use Rattle.plan_tables.specs.Plan.{Tells};
 
 use crate::bodies::bodies_record;
 use crate::context::{context_row, regions_of};
+use crate::debug::debug_record;
 use crate::facts::{entities_row, facts_row};
 use crate::functions::functions_record;
 use crate::globals::globals_record;
@@ -64,6 +65,7 @@ pub fn fill_record<'d>(
     out.structs = structs_row(&plan.offsets);
     fill_items(alloc, translation, &mut out.items)?;
     out.bodies = bodies_record(alloc, translation.function_body_inputs.as_slice())?;
+    out.debug = debug_record(alloc, &translation.debuginfo)?;
     out.memories = memories_record(alloc, &mut plan.translation)?;
     Ok(())
 }

@@ -18,6 +18,7 @@
 
 mod bodies;
 mod context;
+mod debug;
 mod expressions;
 mod facts;
 mod filling;
@@ -45,10 +46,10 @@ mod values;
 
 pub use filling::fill_record;
 pub use record::{
-    BodiesRecord, BodyRow, ElementItemsRecord, ExportsRecord, ExpressionsRecord, FunctionNameRow,
-    FunctionsRecord, GlobalsRecord, ImportsRecord, InternedRecord, ItemsRecord, KindsRecord,
-    LayoutsRecord, MemoriesRecord, NamesRecord, PlacesRecord, PlanRecord, RegionRow, RuntimeRow,
-    TablesRecord, TypesRecord,
+    BodiesRecord, BodyRow, DebugRecord, ElementItemsRecord, ExportsRecord, ExpressionsRecord,
+    FunctionNameRow, FunctionsRecord, GlobalsRecord, ImportsRecord, InternedRecord, ItemsRecord,
+    KindsRecord, LayoutsRecord, LocalNameRow, MemoriesRecord, NamesRecord, PlacesRecord,
+    PlanRecord, RegionRow, RuntimeRow, TablesRecord, TypesRecord,
 };
 pub use rows::{
     BranchHintRow, Context, ElementsRow, Entities, ExportRow, Facts, FieldRow, GlobalRow,

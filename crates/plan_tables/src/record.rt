@@ -152,6 +152,34 @@ pub struct BodiesRecord<'d> {
     pub locals: &'d [LocalsRow],
 }
 
+/// The name of a local: `bobbinazure_local_name`.
+#[repr(C)]
+#[derive(Clone, Copy)]
+pub struct LocalNameRow<'d> {
+    /// The function, by its index.
+    pub function: u32,
+    /// The local, by its index; the parameters come first.
+    pub local: u32,
+    /// In the module's bytes, in UTF-8.
+    pub name: &'d [u8],
+}
+
+/// What `native_debug` keeps besides names of functions.
+#[repr(C)]
+#[derive(Clone, Copy)]
+pub struct DebugRecord<'d> {
+    /// How many functions are imported: `imported_func_count`.
+    pub imports: u32,
+    /// The names of locals, by functions and then by locals; the next two are empty too without
+    /// `native_debug`: `local_names`.
+    pub names: &'d [LocalNameRow<'d>],
+    /// Of each defined function its locals, a part of the next list. Its parameters are those of
+    /// its type, as of `functions`: `function_metadata`.
+    pub functions: &'d [Span],
+    /// The locals of functions, end to end, in runs of one interned type: `metadata_locals`.
+    pub locals: &'d [LocalsRow],
+}
+
 /// What functions have besides their types, and passive elements.
 #[repr(C)]
 #[derive(Clone, Copy)]
@@ -281,4 +309,5 @@ pub struct PlanRecord<'d> {
     pub structs: Structs,
     pub items: ItemsRecord<'d>,
     pub bodies: BodiesRecord<'d>,
+    pub debug: DebugRecord<'d>,
 }

@@ -256,7 +256,7 @@ pub struct ItemsRow {
 pub struct LocalsRow {
     /// How many locals.
     pub count: u32,
-    /// Their type. A type of the module is named by the type section: `list` is
+    /// Their type. In `locals` a type of the module is named by the type section: `list` is
     /// `BOBBINAZURE_OF_SECTION`, and `heap` is `BOBBINAZURE_HEAP_DECLARED`.
     pub value: ValueRow,
 }

@@ -96,4 +96,6 @@ const _: () = prove!(size_of::<crate::record::ElementItemsRecord<'static>>() == 
 
 const _: () = prove!(size_of::<crate::record::BodyRow<'static>>() == 32);
 
-const _: () = prove!(size_of::<crate::record::PlanRecord<'static>>() == 1288);
+const _: () = prove!(size_of::<crate::record::LocalNameRow<'static>>() == 24);
+
+const _: () = prove!(size_of::<crate::record::PlanRecord<'static>>() == 1344);

@@ -307,7 +307,12 @@ laid_out! {
         code 0,
         locals 16,
     }
-    PlanRecord: 1288 {
+    LocalName: 24 {
+        function 0,
+        local 4,
+        name 8,
+    }
+    PlanRecord: 1344 {
         refusal 0,
         refusal_detail 4,
         refusal_line 8,
@@ -370,6 +375,10 @@ laid_out! {
         passive_items 1192,
         bodies 1256,
         locals 1272,
+        imported_func_count 1288,
+        local_names 1296,
+        function_metadata 1312,
+        metadata_locals 1328,
     }
     Text: 24 {
         text 0,

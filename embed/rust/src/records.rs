@@ -156,6 +156,16 @@ pub(crate) struct PlanRecord {
     pub(crate) bodies: List<Body>,
     /// The locals of bodies, end to end, in runs of one type.
     pub(crate) locals: List<Locals>,
+    /// How many functions are imported.
+    pub(crate) imported_func_count: u32,
+    /// The names of locals, by functions and then by locals; the next two are empty too without
+    /// `native_debug`.
+    pub(crate) local_names: List<LocalName>,
+    /// Of each defined function its locals, a part of the next list. Its parameters are those of
+    /// its type, as of `functions`.
+    pub(crate) function_metadata: List<Span>,
+    /// The locals of functions, end to end, in runs of one interned type.
+    pub(crate) metadata_locals: List<Locals>,
 }
 
 impl PlanRecord {
@@ -220,6 +230,9 @@ impl PlanRecord {
             self.passive_items.expressions.operators.free();
             self.bodies.free();
             self.locals.free();
+            self.local_names.free();
+            self.function_metadata.free();
+            self.metadata_locals.free();
         }
     }
 }

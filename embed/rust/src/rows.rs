@@ -250,7 +250,7 @@ pub struct Items {
 pub struct Locals {
     /// How many locals.
     pub count: u32,
-    /// Their type. A type of the module is named by the type section: `list` is
+    /// Their type. In `locals` a type of the module is named by the type section: `list` is
     /// [`numbers::OF_SECTION`](crate::numbers::OF_SECTION), and `heap` is [`numbers::HEAP_DECLARED`](crate::numbers::HEAP_DECLARED).
     pub value: Value,
 }
@@ -669,6 +669,18 @@ pub struct Body {
     pub(crate) code: List<u8>,
     /// Its locals, a part of `locals`.
     pub locals: Span,
+}
+
+/// The name of a local.
+#[repr(C)]
+#[derive(Default)]
+pub struct LocalName {
+    /// The function, by its index.
+    pub function: u32,
+    /// The local, by its index; the parameters come first.
+    pub local: u32,
+    /// In the module's bytes, in UTF-8.
+    pub(crate) name: List<u8>,
 }
 
 /// Where and why a module is malformed or not supported. Offsets count the bytes of the module, from

@@ -11,7 +11,7 @@ returns c = record {
   context = c.context_row-out.ensures;
   types = c.in_ok-out.ensures;
   kinds = c.in_ok-out-2.ensures;
-  memories = c.in_ok-out-9.ensures;
+  memories = c.in_ok-out-10.ensures;
   tables = c.in_ok-out-3.ensures;
   regions = ap (map region_told) c.leak.ensures.value ∙ c.in_ok-regions_of.ensures;
   functions = c.in_ok-out-4.ensures;
@@ -24,4 +24,5 @@ returns c = record {
   structs = c.structs_row-out.ensures;
   items = c.in_ok-fill_items.ensures;
   bodies = subst (λ inputs. TellsBodies inputs c.in_ok-out-8.field-0) c.as_slice.ensures c.in_ok-out-8.ensures;
+  debug = c.in_ok-out-9.ensures;
 }
