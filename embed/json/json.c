@@ -79,6 +79,24 @@ static void put_name(const bobbinazure_plan *plan, uint32_t function) {
     null("name");
 }
 
+static void put_local_names(const bobbinazure_local_name *at, size_t len) {
+    open_list("local_names");
+    for (size_t i = 0; i < len; i++) {
+        open_object(0);
+        number("index", at[i].local);
+        bytes("name", at[i].name);
+        close_object();
+    }
+    close_list();
+}
+
+/* How many rows from a place on are of a function: names are in the order of functions. */
+static size_t names_of(const bobbinazure_plan *plan, size_t from, size_t function) {
+    size_t end = from;
+    while (end < plan->local_names.len && plan->local_names.at[end].function == function) end++;
+    return end - from;
+}
+
 static void put_branch_hints(const bobbinazure_branch_hint *at, size_t len) {
     open_list("branch_hints");
     for (size_t i = 0; i < len; i++) {
@@ -91,7 +109,7 @@ static void put_branch_hints(const bobbinazure_branch_hint *at, size_t len) {
 }
 
 static void put_functions(const bobbinazure_plan *plan, const uint8_t *module) {
-    size_t imported = plan->entities.imported_functions, hinted = 0, hint = 0;
+    size_t imported = plan->entities.imported_functions, hinted = 0, hint = 0, named = 0;
     open_list("functions");
     for (size_t i = 0; i < plan->functions.len; i++) {
         open_object(0);
@@ -99,6 +117,9 @@ static void put_functions(const bobbinazure_plan *plan, const uint8_t *module) {
         number("type", plan->functions.at[i]);
         boolean("imported", i < imported);
         put_name(plan, i);
+        size_t names = names_of(plan, named, i);
+        put_local_names(plan->local_names.at + named, names);
+        named += names;
         boolean("escaped", plan->escapes.at[i] != BOBBINAZURE_NONE);
         index_or_null("func_ref", plan->escapes.at[i]);
         if (i < imported || i - imported >= plan->bodies.len) null("body");

@@ -1,11 +1,11 @@
 -- Known values of globals are had back where integers have the bits of their types, and names of
--- functions from what is found at each number.
+-- functions and locals from what is found at each number.
 use Rattle.std.proofs.Common.{◌≡◌, ◌∙◌, ◌+◌, ◌<◌, ◌≤◌, ℕ, Bool, true, false, cond, List, [], ◌∷◌, ◌++◌, length, get_or, take, map, Option, None, Some, nat_eq, refl, sym, ap, subst, arith}
 use Rattle.std.specs.List.{All}
 use Rattle.std.specs.Int.{cast_signed, w32, w64}
 use Rattle.std.specs.Map.{lookup}
 use Rattle.std.specs.BTreeMap.{BTreeMap}
-use Rattle.std.specs.Option.{option_map, option_and_then}
+use Rattle.std.specs.Option.{option_map}
 use Rattle.std.proofs.lemmas.Int.{to_z-of_z}
 use Rattle.std.proofs.lemmas.List.{take_more, take_all}
 use Rattle.std.proofs.lemmas.List.Elements.{All-head, All-tail, All-push}
@@ -17,10 +17,12 @@ use Rattle.wasm_convert.specs.Constants.{plain_value_of}
 use Rattle.wasm_convert.specs.declared.values.GlobalConstValue.{GlobalConstValue}
 use Rattle.wasm_convert.specs.declared.values.GlobalConstValue.TheVariants as value
 use Rattle.replay_spec.specs.Values.{Value, I32, I64, F32, F64, V128}
-use Rattle.module_customs.specs.Names.{Text, named, HasLast, AreLocals, at_number}
+use Rattle.module_customs.specs.Names.{Text, named, HasLast, HasLocals, AreLocals, at_number}
+use Rattle.module_customs.specs.Names.{local_names as names_at}
 use Rattle.init_plan.specs.declared.debug_info.NameSection.{NameSection}
 use Rattle.module_environ.specs.Initialisers.{view_value}
 use Rattle.plan_laws.specs.Kept.{IsSized, Rises}
+use Rattle.plan_laws.specs.Same.{local_names, locals_named}
 use Rattle.plan_laws.proofs.Ascending.{same-pairs}
 
 -- ---- known values
@@ -67,31 +69,62 @@ sized-more gs k g lt is so_far sized = subst (All IsSizedAt) (ap (λ (h : Known)
 pub sized-all : (gs : List Known) (k : ℕ) → length gs ≤ k → All IsSizedAt (take k gs) → All IsSizedAt gs
 sized-all gs k past sized = subst (All IsSizedAt) (take_all k gs past) sized
 
+-- ---- what a map finds
+
+module _ {K X V : Type 0} (number : K → ℕ) (see : X → V) where
+  by-test : (b : Bool) (x : X) (o : Option X) → cond b (Some (see x)) (option_map see o) ≡ option_map see (cond b (Some x) o)
+  by-test true x o = refl
+  by-test false x o = refl
+
+  found-at : (n : ℕ) (es : List (K × X)) → lookup (λ k. nat_eq n k) (map (λ (e : K × X). (number e.0, see e.1)) es) ≡ option_map see (lookup (λ key. nat_eq n (number key)) es)
+  found-at n [] = refl
+  found-at n (e ∷ es) = ap (cond (nat_eq n (number e.0)) (Some (see e.1))) (found-at n es) ∙ by-test (nat_eq n (number e.0)) e.1 (lookup (λ key. nat_eq n (number key)) es)
+
 -- ---- names of functions
-
-abbrev Entry : Type 0
-Entry = Index FuncSpace × Text
-
-by-test : (b : Bool) (v : Text) (o : Option Text) → cond b (Some v.now) (option_map (λ text. text.now) o) ≡ option_map (λ text. text.now) (cond b (Some v) o)
-by-test true v o = refl
-by-test false v o = refl
-
-found-at : (n : ℕ) (es : List Entry) → lookup (λ k. nat_eq n k) (map named es) ≡ option_map (λ text. text.now) (lookup (λ key. nat_eq n (number_of key)) es)
-found-at n [] = refl
-found-at n (e ∷ es) = ap (cond (nat_eq n (number_of e.0)) (Some e.1.now)) (found-at n es) ∙ by-test (nat_eq n (number_of e.0)) e.1 (lookup (λ key. nat_eq n (number_of key)) es)
 
 pub names-told : (names : List (ℕ × List ℕ)) (x y : NameSection) → HasLast names (at_number number_of x.func_names) → HasLast names (at_number number_of y.func_names)
     → Rises (map named x.func_names.entries) → Rises (map named y.func_names.entries) → map named x.func_names.entries ≡ map named y.func_names.entries
 names-told names x y a b rise rises = same-pairs (map named x.func_names.entries) (map named y.func_names.entries) rise rises
-    (λ n. found-at n x.func_names.entries ∙ a n ∙ sym (b n) ∙ sym (found-at n y.func_names.entries))
+    (λ n. found-at number_of (λ text. text.now) n x.func_names.entries ∙ a n ∙ sym (b n) ∙ sym (found-at number_of (λ text. text.now) n y.func_names.entries))
 
 -- ---- names of locals
 
-abbrev name-in : Option (BTreeMap ℕ Text) → ℕ → Option (List ℕ)
-name-in kept n = option_and_then (λ names. option_map (λ text. text.now) (at_number (λ k. k) names n)) kept
+abbrev Locals : Type 0
+Locals = Index FuncSpace × BTreeMap ℕ Text
 
-pub locals-told : (names : List (ℕ × List ℕ)) (x y : Option (BTreeMap ℕ Text)) → AreLocals names x → AreLocals names y → (n : ℕ) → name-in x n ≡ name-in y n
-locals-told names None None a b n = refl
-locals-told names None (Some y) a b n = absurd (omega (arith, ap length a, b.0))
-locals-told names (Some x) None a b n = absurd (omega (arith, ap length b, a.0))
-locals-told names (Some x) (Some y) a b n = a.1 n ∙ sym (b.1 n)
+abbrev RisesAt : Locals → Type 0
+RisesAt entry = Rises (local_names entry.1)
+
+-- what is found is in order
+RisesIn : Option (BTreeMap ℕ Text) → Type 0
+RisesIn None = Unit {0}
+RisesIn (Some kept) = Rises (local_names kept)
+
+rises-by : (b : Bool) (kept : BTreeMap ℕ Text) (o : Option (BTreeMap ℕ Text)) → Rises (local_names kept) → RisesIn o → RisesIn (cond b (Some kept) o)
+unfolding RisesIn
+rises-by true kept o here rest = here
+rises-by false kept o here rest = rest
+
+rises-in : (n : ℕ) (es : List Locals) → All RisesAt es → RisesIn (lookup (λ key. nat_eq n (number_of key)) es)
+unfolding RisesIn
+rises-in n [] all = tt
+rises-in n (e ∷ es) all = rises-by (nat_eq n (number_of e.0)) e.1 (lookup (λ key. nat_eq n (number_of key)) es) (All-head RisesAt e es all)
+    (rises-in n es (All-tail RisesAt e es all))
+
+-- the names of one function's locals
+locals-same : (names : List (ℕ × List ℕ)) (x y : Option (BTreeMap ℕ Text)) → AreLocals names x → AreLocals names y → RisesIn x → RisesIn y
+    → option_map local_names x ≡ option_map local_names y
+unfolding RisesIn
+locals-same names None None a b rise rises = refl
+locals-same names None (Some y) a b rise rises = absurd (omega (arith, ap length a, b.0))
+locals-same names (Some x) None a b rise rises = absurd (omega (arith, ap length b, a.0))
+locals-same names (Some x) (Some y) a b rise rises = ap Some (same-pairs (local_names x) (local_names y) rise rises
+    (λ n. found-at (λ k. k) (λ text. text.now) n x.entries ∙ a.1 n ∙ sym (b.1 n) ∙ sym (found-at (λ k. k) (λ text. text.now) n y.entries)))
+
+pub locals-told : (names : List (ℕ × List (ℕ × List ℕ))) (x y : BTreeMap (Index FuncSpace) (BTreeMap ℕ Text)) → HasLocals names x → HasLocals names y
+    → Rises (map locals_named x.entries) → Rises (map locals_named y.entries) → All RisesAt x.entries → All RisesAt y.entries
+    → map locals_named x.entries ≡ map locals_named y.entries
+locals-told names x y a b rise rises each all = same-pairs (map locals_named x.entries) (map locals_named y.entries) rise rises
+    (λ n. found-at number_of local_names n x.entries
+    ∙ locals-same (names_at names n) _ _ (a n) (b n) (rises-in n x.entries each) (rises-in n y.entries all)
+    ∙ sym (found-at number_of local_names n y.entries))

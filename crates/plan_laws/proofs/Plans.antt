@@ -35,7 +35,6 @@ use Rattle.table_images.specs.Steps.{images_of}
 use Rattle.table_images.specs.Views.{image_of, initial_of, active_elements_of, planned_tables_of}
 use Rattle.table_images.proofs.Tables.{planned-initials}
 use Rattle.custom_sections.specs.NameReading.{NameLists}
-use Rattle.module_customs.specs.Names.{local_names}
 use Rattle.module_types.specs.Held.{built_of}
 use Rattle.init_plan.specs.declared.translation.ModuleTranslation.{ModuleTranslation}
 use Rattle.init_plan.specs.Startup.{startup_with}
@@ -264,7 +263,9 @@ module _ (one-startup : OneStartup) (one-context : OneContext) (o : Options) (by
     signatures = all-told number_of index-back _ _ (signatures-same _ _ _ _ x.escapes.signatures y.escapes.signatures);
     module_name = x.customs.names.section.module_name ∙ sym y.customs.names.section.module_name;
     function_names = names-told names.functions t.debuginfo.name_section u.debuginfo.name_section x.customs.names.section.functions y.customs.names.section.functions kept.names keeping.names;
-    local_names = λ function. locals-told (local_names names.locals function) _ _ (x.customs.names.section.locals function) (y.customs.names.section.locals function);
+    locals_names = locals-told names.locals t.debuginfo.name_section.locals_names u.debuginfo.name_section.locals_names
+        x.customs.names.section.locals y.customs.names.section.locals kept.functions keeping.functions kept.locals keeping.locals;
+    imported_functions = x.code.imports ∙ sym y.code.imports;
     metadata = x.customs.functions ∙ sym y.customs.functions;
     code_place = x.code.place ∙ sym y.code.place;
     hints = λ function. x.customs.hints function ∙ sym (y.customs.hints function);

@@ -1,17 +1,22 @@
 -- The tables of two plans that hold the same are equal, but for which runtime data each made.
 use Rattle.std.proofs.Common.{◌≡◌, ◌∙◌, ℕ, ◌+◌, List, [], ◌∷◌, length, map, Option, None, Some, codes, refl, sym, ap, subst}
 use Rattle.std.specs.Prelude.{IsTrue, IsFalse, unwrap_or}
+use Rattle.std.specs.BTreeMap.{BTreeMap}
 use Rattle.std.specs.List.{flat_map}
 use Rattle.std.specs.Option.{option_map}
 use Rattle.std.specs.Global.{Vec}
 use Rattle.std.specs.declared.ops.Range.{Range}
+use Rattle.std.proofs.lemmas.List.{length-map}
 use Rattle.entity_map.specs.Keyed.{keyed, keyed_from}
 use Rattle.type_data.specs.ListLaws.{map-twice}
 use Rattle.wasm_spec.specs.Module.{Body}
+use Rattle.wasm_spec.specs.TypeData.{Value}
 use Rattle.form_data.specs.Views.{body_of}
 use Rattle.wasm_index.specs.declared.index.Index.{Index}
 use Rattle.wasm_index.specs.declared.spaces.FuncSpace.{FuncSpace}
 use Rattle.wasm_index.specs.Index.{number_of, index_of}
+use Rattle.wasm_types.specs.ValueViews.{Name, value_of as view_value}
+use Rattle.wasm_types.specs.ViewsTell.{value_back}
 use Rattle.wasm_module.specs.declared.function.FunctionType.{FunctionType}
 use Rattle.wasm_module.specs.declared.table_initialization.TableSegment.{TableSegment}
 use Rattle.gc_layout.specs.declared.object.GcLayout.{GcLayout}
@@ -19,6 +24,7 @@ use Rattle.gc_layout.specs.declared.object.GcLayout.TheVariants as layout
 use Rattle.gc_layout.specs.Objects.{ObjectLayout, OfArray, OfFields, object_layout}
 use Rattle.module_types.specs.TypeList.{TypeList}
 use Rattle.module_types.specs.Views.{TypeIndex}
+use Rattle.init_plan.specs.declared.debug_info.FunctionMetadata.{FunctionMetadata}
 use Rattle.init_plan.specs.declared.translation.FunctionBodyData.{FunctionBodyData}
 use Rattle.init_plan.specs.declared.translation.MemoryInit.{MemoryInit}
 use Rattle.init_plan.specs.declared.translation.MemoryInit.TheVariants as init
@@ -26,7 +32,9 @@ use Rattle.init_plan.specs.declared.translation.ModuleTranslation.{ModuleTransla
 use Rattle.init_plan.specs.declared.translation.RuntimeBytes.{RuntimeBytes}
 use Rattle.init_plan.specs.declared.translation.RuntimeBytes.TheVariants as runtime
 use Rattle.init_plan.specs.Views.{bytes_of}
+use Rattle.module_customs.specs.Names.{Text}
 use Rattle.module_environ.specs.Initialisers.{ActiveItems, view_items, view_segment}
+use Rattle.module_environ.specs.Metadata.{FunctionData, view_function}
 use Rattle.vm_offsets.specs.Context.{context_entries, context_size, entry_named}
 use Rattle.vm_offsets.specs.Layouts.{pointer_of}
 use Rattle.vm_offsets.specs.Regions.{context_regions}
@@ -39,9 +47,11 @@ use Rattle.plan_tables.specs.declared.record.RuntimeRow.{RuntimeRow}
 use Rattle.plan_tables.specs.declared.rows.ElementsRow.{ElementsRow}
 use Rattle.plan_tables.specs.declared.rows.LayoutFieldRow.{LayoutFieldRow}
 use Rattle.plan_tables.specs.declared.rows.LayoutRow.{LayoutRow}
+use Rattle.plan_tables.specs.declared.rows.LocalsRow.{LocalsRow}
 use Rattle.plan_tables.specs.declared.rows.Span.{Span}
 use Rattle.plan_tables.specs.Bodies.{body_rows, locals_row, TellsBodies}
 use Rattle.plan_tables.specs.Context.{BeginsAt, TellsContext, placed_back}
+use Rattle.plan_tables.specs.Debug.{TellsDebug, local_name, local_names, metadata_run}
 use Rattle.plan_tables.specs.Expressions.{TellsExpressions, TellsPlaces, offset_operators, value_operators}
 use Rattle.plan_tables.specs.Facts.{facts_row, startup_row, images_bit, start_number}
 use Rattle.plan_tables.specs.Functions.{TellsFunctions, hints_row, branch_hint_rows, passive_segment_row, passive_elements_row}
@@ -58,7 +68,7 @@ use Rattle.plan_tables.specs.Structs.{TellsStructs}
 use Rattle.plan_tables.specs.Tables.{TellsTables}
 use Rattle.plan_tables.specs.Types.{TellsTypes}
 use Rattle.plan_laws.specs.Records.{TellAlike, with_runtime}
-use Rattle.plan_laws.specs.Same.{SameModule, SameTranslation, SamePlan, left_of}
+use Rattle.plan_laws.specs.Same.{SameModule, SameTranslation, SamePlan, left_of, locals_named}
 use Rattle.plan_laws.proofs.Rows.{own-text, names-tell, entities-tell, kinds-tell, expressions-told, items-told}
 use Rattle.plan_laws.proofs.Text.{items_count, count-by}
 use Rattle.plan_laws.proofs.Told.{lines-told, rows-told, found-told}
@@ -123,6 +133,28 @@ bodies-tell xs ys same r c = record {
   rows = c.rows ∙ bodies-by 0 xs ∙ ap (bodies_by 0) same ∙ sym (bodies-by 0 ys);
   locals = c.locals ∙ lines-told view_body (λ (b : FunctionBodyData). map locals_row b.body.locals.items) (λ (b : Body). map locals_row b.locals) (λ b. refl) xs ys same;
 }
+
+-- ---- for a debugger
+
+run_by : ℕ × Value Name → LocalsRow
+run_by run = metadata_run (run.0, value_back.back run.1)
+
+runs_by : FunctionData → List LocalsRow
+runs_by f = map run_by f.locals
+
+runs-by : (f : FunctionMetadata) → map metadata_run f.locals.items ≡ runs_by (view_function f)
+unfolding runs_by run_by
+runs-by f = sym (map-twice (λ run. (run.0, view_value run.1)) run_by metadata_run (λ run i. metadata_run (run.0, value_back.is run.1 i)) f.locals.items)
+
+count-runs : (f : FunctionMetadata) → length f.locals.items ≡ length (view_function f).locals
+count-runs f = sym (length-map f.locals.items (λ run. (run.0, view_value run.1)))
+
+names_by : ℕ × List (ℕ × List ℕ) → List (ℕ × ℕ × List ℕ)
+names_by entry = map (λ name. (entry.0, name.0, name.1)) entry.1
+
+names-by : (entry : Index FuncSpace × BTreeMap ℕ Text) → local_names entry ≡ names_by (locals_named entry)
+unfolding names_by
+names-by entry = sym (map-twice (λ name. (name.0, name.1.now)) (λ name. (number_of entry.0, name.0, name.1)) (local_name entry.0) (λ name. refl) entry.1.entries)
 
 -- ---- segments
 
@@ -236,6 +268,20 @@ module _ (t u : ModuleTranslation) (same : SameTranslation t u) where
     passive = items-told view_items (λ x. x) (λ v. v) (λ x. refl) t.passive_elements u.passive_elements same.passive_elements r.items.passive c.passive;
   }
 
+  debug-tell : (r : PlanRecord) → TellsDebug t.debuginfo r.debug → TellsDebug u.debuginfo r.debug
+  debug-tell r c =
+      let before = t.debuginfo in
+      let after = u.debuginfo in
+      record {
+        imports = c.imports ∙ same.imported_functions;
+        names = c.names
+            ∙ lines-told locals_named local_names names_by names-by before.name_section.locals_names.entries after.name_section.locals_names.entries same.locals_names;
+        functions = c.functions ∙ ap (spans_from 0) (rows-told view_function (λ f. length f.locals.items) (λ f. length f.locals) count-runs
+            before.wasm_file.funcs.items after.wasm_file.funcs.items same.metadata);
+        locals = c.locals ∙ lines-told view_function (λ f. map metadata_run f.locals.items) runs_by runs-by
+            before.wasm_file.funcs.items after.wasm_file.funcs.items same.metadata;
+      }
+
 -- ---- a plan
 
 module _ (p q : Plan) (same : SamePlan p q) where
@@ -312,5 +358,6 @@ module _ (p q : Plan) (same : SamePlan p q) where
           structs = subst (λ n. TellsStructs n r.structs) pointer c.structs;
           items = items-tell x y t r c.items;
           bodies = bodies-tell x.function_body_inputs y.function_body_inputs t.bodies r.bodies c.bodies;
+          debug = debug-tell x y t r c.debug;
         };
       }

@@ -7,6 +7,7 @@ use Rattle.wasm_convert.specs.declared.values.GlobalConstValue.{GlobalConstValue
 use Rattle.wasm_convert.specs.declared.values.GlobalConstValue.TheVariants.{I32, I64}
 use Rattle.module_customs.specs.Names.{named}
 use Rattle.plan.specs.declared.plan.Plan.{Plan}
+use Rattle.plan_laws.specs.Same.{local_names, locals_named}
 
 -- a number is below each key
 abbrev pub IsBelowAll : {V : Type 0} → ℕ → List (ℕ × V) → Type 0
@@ -24,8 +25,10 @@ IsSized (I32 n) = FitsSigned w32 n
 IsSized (I64 n) = FitsSigned w64 n
 IsSized value = Unit {0}
 
--- the names of functions stand in the order of their numbers, and known values of globals are
--- integers of their bits
+-- names are in the order of their functions and locals, and known values of globals are integers
+-- of their bits
 pub record IsKept (plan : Plan) : Type 0 where
   pub names : Rises (map named plan.translation.debuginfo.name_section.func_names.entries)
+  pub functions : Rises (map locals_named plan.translation.debuginfo.name_section.locals_names.entries)
+  pub locals : All (λ entry. Rises (local_names entry.1)) plan.translation.debuginfo.name_section.locals_names.entries
   pub values : All (λ g. IsSized g.1) plan.translation.module.global_initializers.items

@@ -2,17 +2,19 @@
 -- where borrowed bytes lie, and the types by their ids, which are the form reader's own and which
 -- no line prints.
 use Rattle.std.specs.Prelude.{◌≡◌, ℕ, List, [], map, Option, None}
-use Rattle.std.specs.Option.{option_map, option_and_then}
+use Rattle.std.specs.BTreeMap.{BTreeMap}
+use Rattle.std.specs.Option.{option_map}
 use Rattle.entity_map.specs.Secondary.{value_at}
 use Rattle.form_data.specs.Views.{body_of}
 use Rattle.wasm_index.specs.declared.index.Index.{Index}
+use Rattle.wasm_index.specs.declared.spaces.FuncSpace.{FuncSpace}
 use Rattle.wasm_index.specs.declared.spaces.MemorySpace.{MemorySpace}
 use Rattle.wasm_index.specs.declared.spaces.RuntimeDataSpace.{RuntimeDataSpace}
 use Rattle.wasm_index.specs.Index.{number_of}
 use Rattle.wasm_module.specs.declared.module.Module.{Module}
 use Rattle.wasm_module.specs.Record.{record_of}
 use Rattle.gc_layout.specs.Objects.{object_layout}
-use Rattle.module_customs.specs.Names.{named, at_number}
+use Rattle.module_customs.specs.Names.{Text, named}
 use Rattle.init_plan.specs.declared.translation.MemoryInit.{MemoryInit}
 use Rattle.init_plan.specs.declared.translation.MemoryInit.TheVariants as init
 use Rattle.init_plan.specs.declared.translation.MemorySegmentOffset.{MemorySegmentOffset}
@@ -56,10 +58,13 @@ abbrev pub left_of : MemoryInit → List (Index MemorySpace × MemorySegmentOffs
 left_of (init.Unprocessed segments) = []
 left_of (init.Processed segments) = segments.items
 
--- the name of a local of a function, where it has one
-abbrev pub local_name : ModuleTranslation → ℕ → ℕ → Option (List ℕ)
-local_name t function index =
-    option_and_then (λ names. option_map (λ text. text.now) (at_number (λ number. number) names index)) (at_number number_of t.debuginfo.name_section.locals_names function)
+-- the names of a function's locals, by their indices
+abbrev pub local_names : BTreeMap ℕ Text → List (ℕ × List ℕ)
+local_names names = map (λ name. (name.0, name.1.now)) names.entries
+
+-- a function whose locals have names, by its number
+abbrev pub locals_named : Index FuncSpace × BTreeMap ℕ Text → ℕ × List (ℕ × List ℕ)
+locals_named entry = (number_of entry.0, local_names entry.1)
 
 pub record SameTranslation (t u : ModuleTranslation) : Type 0 where
   pub «module» : SameModule t.module u.module
@@ -69,7 +74,8 @@ pub record SameTranslation (t u : ModuleTranslation) : Type 0 where
   pub signatures : t.exported_signatures.items ≡ u.exported_signatures.items
   pub module_name : option_map (λ text. text.now) t.debuginfo.name_section.module_name ≡ option_map (λ text. text.now) u.debuginfo.name_section.module_name
   pub function_names : map named t.debuginfo.name_section.func_names.entries ≡ map named u.debuginfo.name_section.func_names.entries
-  pub local_names : (function index : ℕ) → local_name t function index ≡ local_name u function index
+  pub locals_names : map locals_named t.debuginfo.name_section.locals_names.entries ≡ map locals_named u.debuginfo.name_section.locals_names.entries
+  pub imported_functions : t.debuginfo.wasm_file.imported_func_count ≡ u.debuginfo.wasm_file.imported_func_count
   pub metadata : map view_function t.debuginfo.wasm_file.funcs.items ≡ map view_function u.debuginfo.wasm_file.funcs.items
   pub code_place : t.debuginfo.wasm_file.code_section_offset ≡ u.debuginfo.wasm_file.code_section_offset
   pub hints : (function : ℕ) → hints_of t function ≡ hints_of u function

@@ -1,19 +1,42 @@
 //! What the types of a plan keep, read off a plan.
 
-ghost use Rattle.std.specs.Prelude.{All};
-ghost use Rattle.plan_laws.specs.Kept.{IsKept, IsSized};
+ghost use Rattle.std.specs.Prelude.{All, map};
+ghost use Rattle.plan_laws.specs.Kept.{IsKept, IsSized, Rises};
+ghost use Rattle.plan_laws.specs.Same.{local_names, locals_named};
 
 use plan::Plan;
+use std::collections::BTreeMap;
 use wasm_convert::GlobalConstValue;
-use wasm_index::DefinedGlobalIndex;
+use wasm_index::{DefinedGlobalIndex, FuncIndex};
 
-/// The names of functions stand in the order of their numbers, and known values of globals are
-/// integers of their bits.
+/// Names are in the order of their functions and locals, and known values of globals are integers
+/// of their bits.
 pub(crate) fn keeps(plan: &Plan)
     ensures { IsKept plan.now }
 {
-    let _count = plan.translation.debuginfo.name_section.func_names.len();
+    let names = &plan.translation.debuginfo.name_section;
+    let _count = names.func_names.len();
+    keep_locals(&names.locals_names);
     keep_sizes(plan.translation.module.global_initializers.as_slice());
+}
+
+/// The names of locals are in the order of their functions, and those of a function in the order
+/// of their locals.
+fn keep_locals(names: &BTreeMap<FuncIndex, BTreeMap<u32, &str>>)
+    ensures functions { Rises (map locals_named names.now.entries) }
+    ensures locals { All (λ entry. Rises (local_names entry.1)) names.now.entries }
+{
+    let _count = names.len();
+    for (_, locals) in names.iter() {
+        keep_names(locals);
+    }
+}
+
+/// The names of a function's locals are in the order of the locals.
+fn keep_names(names: &BTreeMap<u32, &str>)
+    ensures { Rises (local_names names.now) }
+{
+    let _count = names.len();
 }
 
 /// Integers have the bits of their types.

@@ -93,10 +93,7 @@ impl<'d> Plan<'d> {
             };
             return RefType { nullable: run.value.nullable, heap_type }.into();
         }
-        match StorageType::from(run.value) {
-            StorageType::Val(ty) => ty,
-            StorageType::I8 | StorageType::I16 => ValType::I32, // of no local
-        }
+        StorageType::from(run.value).unpacked()
     }
 
     /// The branch hints, function by function, those of a function in order.

@@ -22,6 +22,7 @@
 
 mod bodies;
 mod canonical;
+mod debug;
 mod entities;
 mod error;
 mod expressions;
@@ -41,6 +42,7 @@ mod types;
 
 pub use bodies::Body;
 pub use canonical::CanonicalGroup;
+pub use debug::FunctionMetadata;
 pub use entities::{EntityIndex, Export, Function, Import};
 pub use error::{Error, Reason};
 pub use expressions::{ConstExpr, ConstOp};

@@ -215,6 +215,16 @@ pub enum StorageType {
     Val(ValType),
 }
 
+impl StorageType {
+    /// The value of a local, which no type packs.
+    pub(crate) fn unpacked(self) -> ValType {
+        match self {
+            StorageType::Val(ty) => ty,
+            StorageType::I8 | StorageType::I16 => ValType::I32,
+        }
+    }
+}
+
 impl From<ValType> for StorageType {
     fn from(ty: ValType) -> Self {
         StorageType::Val(ty)

@@ -128,6 +128,8 @@ fn told(module: &[u8]) {
         let Ok((plan, text)) = plan_and_text(module, &options) else { continue };
         let lines = [types(&plan), entities(&plan), tables(&plan), memories(&plan), context(&plan)].concat();
         assert_eq!(lines, text.lines().collect::<Vec<_>>(), "{options:?}");
+        assert_eq!(plan.function_metadata().len(), if options.native_debug { plan.bodies().len() } else { 0 });
+        assert!(plan.function_metadata().zip(plan.bodies()).all(|(function, body)| function.locals().eq(body.locals())), "{options:?}");
     }
 }
 

@@ -11,5 +11,7 @@ use Rattle.plan_laws.proofs.kept.keeps.Goals as goal
 pub returns : goal.returns
 returns c = record {
   names = rises _ number_of (λ text. text.now) (λ a b. refl) c.args.plan.now.translation.debuginfo.name_section.func_names.entries c.len-count.ensures.ordered;
+  functions = c.keep_locals.ensures.functions;
+  locals = c.keep_locals.ensures.locals;
   values = subst (λ (gs : List (Index DefinedGlobalSpace × GlobalConstValue)). All (λ g. IsSized g.1) gs) c.as_slice.ensures.value c.keep_sizes.ensures;
 }

@@ -1,0 +1,87 @@
+//! What the option `native_debug` keeps for a debugger: names of locals, and the metadata of functions.
+
+use crate::plan::{Plan, name, part};
+use crate::rows::{LocalName, Locals};
+use crate::types::{CompositeType, Fields, StorageType, ValType};
+
+/// The metadata of a defined function.
+#[derive(Clone, Copy, Debug, PartialEq, Eq, Hash)]
+pub struct FunctionMetadata<'p> {
+    /// Its parameters, which are those of its type.
+    pub params: Fields<'p>,
+    locals: &'p [Locals],
+}
+
+impl<'p> FunctionMetadata<'p> {
+    /// Its locals besides its parameters, in runs of one type: how many, and their type, by interned types.
+    pub fn locals(&self) -> impl ExactSizeIterator<Item = (u32, ValType)> + use<'p> {
+        self.locals.iter().map(|run| (run.count, StorageType::from(run.value).unpacked()))
+    }
+}
+
+impl Plan<'_> {
+    /// The names of locals, by the index of each function and of the local in it, in order. Parameters come first. There are none without `native_debug`.
+    ///
+    /// ```
+    /// # let bytes = std::fs::read(concat!(env!("CARGO_MANIFEST_DIR"), "/../../examples/linked.wasm"))?;
+    /// # let options = bobbinazure::Options { native_debug: true, ..Default::default() };
+    /// # let plan = bobbinazure::Plan::new(&bytes, &options)?;
+    /// assert_eq!(plan.locals_names().len(), 0); // the example names functions alone
+    /// # Ok::<(), Box<dyn std::error::Error>>(())
+    /// ```
+    pub fn locals_names(&self) -> impl ExactSizeIterator<Item = (u32, u32, &str)> {
+        self.record.local_names.as_slice().iter().map(|row| (row.function, row.local, name(row.name.as_slice())))
+    }
+
+    /// The names of the locals of a function, by the index of each, in order.
+    ///
+    /// ```
+    /// # let bytes = std::fs::read(concat!(env!("CARGO_MANIFEST_DIR"), "/../../examples/linked.wasm"))?;
+    /// # let options = bobbinazure::Options { native_debug: true, ..Default::default() };
+    /// # let plan = bobbinazure::Plan::new(&bytes, &options)?;
+    /// for (local, name) in plan.local_names(1) {
+    ///     println!("local {local} of add is {name}");
+    /// }
+    /// # Ok::<(), Box<dyn std::error::Error>>(())
+    /// ```
+    pub fn local_names(&self, function: u32) -> impl ExactSizeIterator<Item = (u32, &str)> {
+        self.local_name_rows(function).iter().map(|row| (row.local, name(row.name.as_slice())))
+    }
+
+    /// The rows of a function, which follow each other.
+    fn local_name_rows(&self, function: u32) -> &[LocalName] {
+        let rows = self.record.local_names.as_slice();
+        let begin = rows.partition_point(|row| row.function < function);
+        let len = rows[begin..].partition_point(|row| row.function == function);
+        &rows[begin..begin + len]
+    }
+
+    /// The metadata of the defined functions, in order. There is none without `native_debug`.
+    ///
+    /// ```
+    /// # let bytes = std::fs::read(concat!(env!("CARGO_MANIFEST_DIR"), "/../../examples/linked.wasm"))?;
+    /// let options = bobbinazure::Options { native_debug: true, ..Default::default() };
+    /// let plan = bobbinazure::Plan::new(&bytes, &options)?;
+    /// let add = plan.function_metadata().nth(1).unwrap();
+    /// assert_eq!((add.params.len(), add.locals().len()), (2, 0));
+    /// # Ok::<(), Box<dyn std::error::Error>>(())
+    /// ```
+    pub fn function_metadata(&self) -> impl ExactSizeIterator<Item = FunctionMetadata<'_>> {
+        let (parts, locals) = (self.record.function_metadata.as_slice(), self.record.metadata_locals.as_slice());
+        let defined = self.record.functions.as_slice().iter().skip(self.imported_func_count() as usize);
+        parts.iter().zip(defined).map(|(span, ty)| FunctionMetadata { params: self.params(*ty), locals: part(locals, *span) })
+    }
+
+    /// The parameters of an interned type, which only a function has.
+    fn params(&self, ty: u32) -> Fields<'_> {
+        match self.ty(ty).map(|ty| ty.composite_type) {
+            Some(CompositeType::Func { params, .. }) => params,
+            _ => Fields(&[]),
+        }
+    }
+
+    /// How many functions are imported.
+    pub fn imported_func_count(&self) -> u32 {
+        self.record.imported_func_count
+    }
+}
