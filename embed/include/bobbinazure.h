@@ -267,7 +267,7 @@ typedef struct {
        own. */
     uint8_t lazy_tables;
     uint8_t branch_hints; /* Whether hints of branches are read. */
-    uint8_t native_debug; /* Whether the names of locals are kept too. */
+    uint8_t native_debug; /* Whether names of locals and the metadata of functions are kept too. */
     uint8_t guest_debug;  /* Whether references can be made to every function. */
     uint8_t pointer;      /* The bytes of a pointer of the target: 4 or 8. */
     uint8_t collector;    /* How objects are collected: 0 by counts (drc), 1 not at all (null). */

@@ -48,10 +48,7 @@ fn local_names_of<'d>(
     Ok(rows)
 }
 
-fn push_runs(
-    rows: &mut Vec<LocalsRow>,
-    runs: &[(u32, WasmValType)],
-) -> Result<(), OutOfMemory>
+fn push_runs(rows: &mut Vec<LocalsRow>, runs: &[(u32, WasmValType)]) -> Result<(), OutOfMemory>
     ensures { OnOk result (rows.new.items ≡ rows.old.items ++ map metadata_run runs.now) }
 {
     for run in runs {

@@ -22,7 +22,7 @@ pub struct PlanOptions {
     pub lazy_tables: u8,
     /// Whether hints of branches are read.
     pub branch_hints: u8,
-    /// Whether the names of locals are kept too.
+    /// Whether names of locals and the metadata of functions are kept too.
     pub native_debug: u8,
     /// Whether references can be made to every function.
     pub guest_debug: u8,

@@ -16,7 +16,7 @@ pub struct Options {
     pub lazy_tables: bool,
     /// Whether hints of branches are read.
     pub branch_hints: bool,
-    /// Whether the names of locals are kept too.
+    /// Whether names of locals and the metadata of functions are kept too.
     pub native_debug: bool,
     /// Whether references can be made to every function.
     pub guest_debug: bool,
