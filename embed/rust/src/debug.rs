@@ -23,11 +23,12 @@ impl Plan<'_> {
     /// The names of locals, by the index of each function and of the local in it, in order. Parameters come first. There are none without `native_debug`.
     ///
     /// ```
-    /// # let bytes = std::fs::read(concat!(env!("CARGO_MANIFEST_DIR"), "/../../examples/linked.wasm"))?;
-    /// # let options = bobbinazure::Options { native_debug: true, ..Default::default() };
-    /// # let plan = bobbinazure::Plan::new(&bytes, &options)?;
-    /// assert_eq!(plan.locals_names().len(), 0); // the example names functions alone
-    /// # Ok::<(), Box<dyn std::error::Error>>(())
+    /// # let bytes = b"\0asm\x01\0\0\0\x01\x05\x01\x60\x01\x7F\0\x03\x02\x01\0\x0A\x04\x01\x02\0\x0B\0\x0D\x04name\x02\x06\x01\0\x01\0\x01x";
+    /// // of a module with (func (param $x i32))
+    /// let options = bobbinazure::Options { native_debug: true, ..Default::default() };
+    /// let plan = bobbinazure::Plan::new(bytes, &options)?;
+    /// assert_eq!(plan.locals_names().collect::<Vec<_>>(), [(0, 0, "x")]);
+    /// # Ok::<(), bobbinazure::Error>(())
     /// ```
     pub fn locals_names(&self) -> impl ExactSizeIterator<Item = (u32, u32, &str)> {
         self.record.local_names.as_slice().iter().map(|row| (row.function, row.local, name(row.name.as_slice())))
@@ -36,15 +37,13 @@ impl Plan<'_> {
     /// The names of the locals of a function, by the index of each, in order.
     ///
     /// ```
-    /// # let bytes = std::fs::read(concat!(env!("CARGO_MANIFEST_DIR"), "/../../examples/linked.wasm"))?;
+    /// # let bytes = b"\0asm\x01\0\0\0\x01\x05\x01\x60\x01\x7F\0\x03\x02\x01\0\x0A\x04\x01\x02\0\x0B\0\x0D\x04name\x02\x06\x01\0\x01\0\x01x";
     /// # let options = bobbinazure::Options { native_debug: true, ..Default::default() };
-    /// # let plan = bobbinazure::Plan::new(&bytes, &options)?;
-    /// for (local, name) in plan.local_names(1) {
-    ///     println!("local {local} of add is {name}");
-    /// }
-    /// # Ok::<(), Box<dyn std::error::Error>>(())
+    /// # let plan = bobbinazure::Plan::new(bytes, &options)?;
+    /// assert_eq!(plan.locals_names_of(0).collect::<Vec<_>>(), [(0, "x")]);
+    /// # Ok::<(), bobbinazure::Error>(())
     /// ```
-    pub fn local_names(&self, function: u32) -> impl ExactSizeIterator<Item = (u32, &str)> {
+    pub fn locals_names_of(&self, function: u32) -> impl ExactSizeIterator<Item = (u32, &str)> {
         self.local_name_rows(function).iter().map(|row| (row.local, name(row.name.as_slice())))
     }
 

@@ -26,9 +26,9 @@ fn locals_have_names() {
     let bytes = module();
     let plan = Plan::new(&bytes, &Options { native_debug: true, ..Options::default() }).expect("it is planned");
     assert_eq!(plan.locals_names().collect::<Vec<_>>(), [(0, 0, "x"), (1, 2, "z"), (2, 0, "a"), (2, 1, "b")]);
-    assert_eq!(plan.local_names(2).collect::<Vec<_>>(), [(0, "a"), (1, "b")]);
-    assert_eq!(plan.local_names(0).collect::<Vec<_>>(), [(0, "x")]);
-    assert_eq!(plan.local_names(3).len(), 0);
+    assert_eq!(plan.locals_names_of(2).collect::<Vec<_>>(), [(0, "a"), (1, "b")]);
+    assert_eq!(plan.locals_names_of(0).collect::<Vec<_>>(), [(0, "x")]);
+    assert_eq!(plan.locals_names_of(3).len(), 0);
 }
 
 #[test]
