@@ -1,7 +1,7 @@
 -- Two plans that hold the same, field by field. Left out are capacities, seeds of hash tables,
 -- where borrowed bytes lie, and the types by their ids, which are the form reader's own and which
 -- no line prints.
-use Rattle.std.specs.Prelude.{◌≡◌, ℕ, List, [], map, Option, None}
+use Rattle.std.specs.Prelude.{◌≡◌, ℕ, List, [], map, None}
 use Rattle.std.specs.BTreeMap.{BTreeMap}
 use Rattle.std.specs.Option.{option_map}
 use Rattle.entity_map.specs.Secondary.{value_at}
