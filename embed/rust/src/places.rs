@@ -87,7 +87,7 @@ fn place(record: &PlaceRecord) -> Place {
 /// No memory.
 ///
 /// ```
-/// let module = b"\0asm\x01\0\0\0\x05\x07\x02\x00\x01\x01\x03\x02\x01"; // the second memory has a maximum below its minimum
+/// let module = b"\0asm\x01\0\0\0\x05\x06\x02\x00\x01\x01\x03\x02"; // the second memory has a maximum below its minimum
 /// let broken = bobbinazure::locate_rule(module)?.expect("it breaks a rule");
 /// assert_eq!((broken.rule, broken.list, broken.entry), (4, bobbinazure::numbers::IN_MEMORIES, 1));
 /// # Ok::<(), bobbinazure::Error>(())
