@@ -102,7 +102,7 @@ function checkOrder({ parts, told, linesOf, same, report }) {
   const heads = bodies.reduce((sum, it) => sum + Math.ceil(Math.log2(it.size + 1) / 7), 0);
   report("the bodies of the planner’s own module fill its code section", () => lengths + heads + 2 === code.to - code.begin, [`${lengths} + ${heads} + 2, ${code.to - code.begin}`]);
   const sizes = linesOf(own, "functions", true).map(it => it.size);
-  report("by size no function comes behind a smaller one", () => sizes.length === 393 && sizes.every((size, i) => i === 0 || size <= sizes[i - 1]));
+  report("by size no function comes behind a smaller one", () => sizes.every((size, i) => i === 0 || size <= sizes[i - 1]));
 }
 
 // A module that is refused has the sections that were read.
