@@ -17,6 +17,7 @@ ON_THE_WAY = [
     ("replay_spec", "IsStatic"),
     ("replay_spec", "TakesPrefix"),
     ("translate", "IsRefusal"),
+    ("translate", "IsRefused"),
     ("translate", "HasCause"),
     ("translate", "IsValid"),
 ]
@@ -26,7 +27,7 @@ HEAD = """\
 
 `tools/audit --write` writes this page from the sources. `tools/audit` fails where the page differs from them.
 It has the sentence, the contract that says it, and the definitions on the way from the one to the other, each whole.
-[PROVED](PROVED.md) says which clause carries which words. [DEFINITIONS](DEFINITIONS.md) lists all definitions.
+[PROVED](PROVED.md) says which clause carries which words. [DEFINITIONS](DEFINITIONS.md) lists those it depends on.
 
 ## The sentence
 """

@@ -13,11 +13,11 @@
  *
  * The library keeps no state between calls. Several threads may call it at once: a call reads its own
  * arguments and writes its own results. Memory comes from malloc. The caller owns what a call returns,
- * and `.._free` frees it. The bodies of functions are not validated.
+ * and `.._free` frees it. Bodies and types of references are not validated.
  *
- * Images: if a kept element segment (`elements`) can trap, write the elements before you map images, or drop
- * the instance's memories after such a trap: code in an imported table could see data early. If you map no
- * image and write each segment yourself, there is no exception. */
+ * Images: if a kept element segment (`elements`) can trap, write the elements before you map images, or
+ * make the instance's memories zeros after such a trap: code in an imported table could see data that is
+ * never written. If you map no image and write each segment yourself, there is no exception. */
 #ifndef BOBBINAZURE_H
 #define BOBBINAZURE_H
 
@@ -59,7 +59,7 @@ enum {
 
 /* What is wrong at a place: the field `fault`. */
 enum {
-    BOBBINAZURE_FAULT_HEADER = 1,           /* the module does not begin with the header */
+    BOBBINAZURE_FAULT_HEADER = 1,           /* no header of a module; so of a component */
     BOBBINAZURE_FAULT_UNKNOWN_SECTION = 2,  /* no section has the id */
     BOBBINAZURE_FAULT_SECTION_ORDER = 3,    /* the section may not follow those before it */
     BOBBINAZURE_FAULT_SECTION_SIZE = 4,     /* its size is no unsigned number of 32 bits */
@@ -67,7 +67,7 @@ enum {
     BOBBINAZURE_FAULT_NUMBER = 6,           /* the section is not the one number that it should be */
     BOBBINAZURE_FAULT_NAME = 7,             /* a custom section without a name */
     BOBBINAZURE_FAULT_COUNT = 8,            /* the number of entries is no unsigned number of 32 bits */
-    BOBBINAZURE_FAULT_ENTRY = 9,            /* the entry is none */
+    BOBBINAZURE_FAULT_ENTRY = 9,            /* the entry is malformed */
     BOBBINAZURE_FAULT_REMAINDER = 10,       /* bytes follow the last entry of the section */
     BOBBINAZURE_FAULT_UNSUPPORTED = 11      /* well formed, and not supported */
 };
@@ -75,7 +75,7 @@ enum {
 /* The lists of which a rule speaks: the field `list`. */
 enum {
     BOBBINAZURE_IN_TYPES = 0,       /* the declared types */
-    BOBBINAZURE_IN_FUNCTIONS = 1,   /* the index space, imports first; so are the next three */
+    BOBBINAZURE_IN_FUNCTIONS = 1,   /* the index space, imports first; the next three too */
     BOBBINAZURE_IN_TABLE_TYPES = 2,
     BOBBINAZURE_IN_MEMORIES = 3,
     BOBBINAZURE_IN_TAGS = 4,
@@ -871,10 +871,10 @@ typedef struct {
     uint32_t section_start;
     /* The entry of the section, from 0 on, where an entry is wrong; else BOBBINAZURE_NONE. */
     uint32_t entry;
-    /* The offset of what is wrong; the length of the module where it ends too early. */
+    /* Where the wrong entry or part begins; the length of the module where it ends too early. */
     uint32_t byte;
-    /* Input that begins with so many of these bytes is refused too; BOBBINAZURE_NONE where the
-       module ends too early. */
+    /* Whatever follows so many of these bytes, it is refused; BOBBINAZURE_NONE where the module
+       ends too early. */
     uint32_t decided;
     uint32_t fault;             /* What is wrong: a number from BOBBINAZURE_FAULT_HEADER on. */
     bobbinazure_bytes sentence; /* A sentence for people, in UTF-8, without a zero at the end. */
@@ -939,10 +939,10 @@ uint32_t bobbinazure_link(const uint8_t *exporter, size_t exporter_len, const ui
  *   NO_MEMORY      it is unchanged */
 uint32_t bobbinazure_locate(const uint8_t *bytes, size_t len, bobbinazure_place *place);
 
-/* Says which rule a module breaks, and which entry is the first to break it: call it after such a refusal.
+/* Says which rule a module breaks, and which entry is the first to break it: call it after INVALID.
  *
  *   PLANNED        the bytes are not read as a module, or it keeps the rules; `broken` is unchanged
- *   REFUSED        `broken` has the rule and the entry
+ *   REFUSED        `broken`, which needs no init, has both
  *   NO_MEMORY      it is unchanged */
 uint32_t bobbinazure_locate_rule(const uint8_t *bytes, size_t len, bobbinazure_broken_rule *broken);
 

@@ -428,12 +428,12 @@ static int print_place(const uint8_t *module, size_t len) {
     bobbinazure_broken_rule broken = {0, 0, 0};
     uint32_t status = bobbinazure_locate(module, len, &place);
     if (status == BOBBINAZURE_REFUSED)
-        printf("byte 0x%" PRIx32 ", %.*s\n", place.byte, (int)place.sentence.len, (const char *)place.sentence.at);
+        printf("byte %" PRIu32 ", %.*s\n", place.byte, (int)place.sentence.len, (const char *)place.sentence.at);
     bobbinazure_place_free(&place);
     if (status == BOBBINAZURE_PLANNED) {
         status = bobbinazure_locate_rule(module, len, &broken);
         if (status == BOBBINAZURE_REFUSED)
-            printf("rule L%" PRIu32 " is broken by %s %" PRIu32 "\n", broken.rule, lists[broken.list], broken.entry);
+            printf("rule L%" PRIu32 " (docs/FORMAT.md) is broken by %s %" PRIu32 "\n", broken.rule, lists[broken.list], broken.entry);
     }
     return (int)status;
 }

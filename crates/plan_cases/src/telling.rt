@@ -17,9 +17,9 @@ fn tell_difference(rt: &HostRuntime, difference: Difference<'_>) -> io::Result<(
         }
         Difference::Data(place) => println!(rt; "runtime data {place} are others"),
         Difference::Place(Some(place)) => {
-            println!(rt; "refused at byte {}: {place}", place.byte)
+            println!(rt; "the place is byte {}: {place}", place.byte)
         }
-        Difference::Place(None) => println!(rt; "refused at no place"),
+        Difference::Place(None) => println!(rt; "there is no place"),
     }
 }
 

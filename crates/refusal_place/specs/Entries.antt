@@ -64,13 +64,13 @@ pub record IsShort (k : SectionKind) (rest : List ℕ) : Type 0 where
   pub size_is : (unsigned 32).spells number size
   pub short : length after < size
 
--- so does the section
+-- a section has no such entry
 abbrev pub SectionHasNoEntry : SectionKind → List ℕ → ℕ → Type 0
 SectionHasNoEntry k rest entry =
     ((after : List ℕ) × (rest ≡ id_of k ∷ after) × IsUnspelled (unsigned 32) after)
     ⊎ (IsShort k rest ⊎ ((contents : List ℕ) × (before : ℕ) × HasContents k rest contents before × HasNoEntry k contents entry))
 
--- the first section of the kind has no such entry, or there is none before the input ends or is not read
+-- the first section of the kind has no such entry, or no section of the kind is read
 pub record IsUnlisted (bytes : List ℕ) (k : SectionKind) (entry : ℕ) : Type 0 where
   pub start : ℕ
   pub next : ℕ
@@ -79,7 +79,7 @@ pub record IsUnlisted (bytes : List ℕ) (k : SectionKind) (entry : ℕ) : Type 
   pub none_before : All (λ p. section_id p ≢ id_of k) comes_to.before
   pub why : (rest ≡ []) ⊎ (IsUnread (section start next) rest ⊎ SectionHasNoEntry k rest entry)
 
--- the input is long, or has no header
+-- the input is long, has no header, or lists no such entry
 abbrev pub IsNoEntry : List ℕ → SectionKind → ℕ → Type 0
 IsNoEntry bytes k entry = (2 ^ 30 ≤ length bytes) ⊎ (((rest : List ℕ) → ¬ (bytes ≡ header ++ rest)) ⊎ IsUnlisted bytes k entry)
 

@@ -32,7 +32,7 @@ place_in_header bytes offset = record {
   decided = if nat_lt offset (length bytes) then Some (offset + 1) else None;
 }
 
--- a section is read, which takes so many bytes, or not
+-- a section of so many bytes is read, or none
 abbrev pub IsPassed : (start next after : ℕ) → List ℕ → Option ℕ → Type 0
 IsPassed start next after rest (Some count) =
     (p : Payload) × ((section start next).read rest ≡ Ok (p, drop count rest)) × (after ≡ next_order next p) × (0 < count) × (count ≤ length rest)
@@ -54,7 +54,7 @@ IsEntryRead read old new (Some _) = ⊥
 pub record Shortens {A : Type 0} (read : Reader A) : Type 0 where
   pub shorter : (bytes : List ℕ) (x : A) (rest : List ℕ) → read bytes ≡ Ok (x, rest) → length rest ≤ length bytes
 
--- the count of a list, and entries up to this one
+-- the count of a list, and the entries before this one
 pub record ReadsUpTo {A : Type 0} (read : Reader A) (contents : List ℕ) (entry offset count : ℕ) (rest : List ℕ) : Type 0 where
   pub first : List ℕ
   pub entries : List A
@@ -112,7 +112,7 @@ AreUnread kind.Data contents = IsNoList data_segment.read contents
 
 -- ---- a section that is not read
 
--- what follows the id of a section, whose id is at an offset
+-- what follows the id of a section; the id is at `place`
 abbrev pub after_id_at : (place id : ℕ) → Reader Payload
 after_id_at place id = choose_at (id == 0) (sized_at (fill_after name_at custom_after_at)) (section_contents (place + 1) id).read
 

@@ -39,7 +39,7 @@ pub record IsInHeader (bytes : List ℕ) (p : Place) : Type 0 where
 
 -- ---- in the contents of a section
 
--- the count, so many entries as this, and then what is left
+-- the count, `entry` entries, and then what is left
 pub record Lists {A : Type 0} (part : Part A) (contents : List ℕ) (entry offset count : ℕ) (rest : List ℕ) : Type 0 where
   pub number : List ℕ
   pub front : List ℕ

@@ -64,7 +64,7 @@ pub(crate) fn contents_fault(
     }
 }
 
-/// What is wrong with a custom section: it begins with no name, or has one of interface types.
+/// What is wrong with a custom section: it begins with no name, or its name is one of interface types.
 fn custom_fault(contents: &[u8]) -> Result<ContentsFault, OutOfMemory>
     requires unread { AreUnread SectionKind.Custom contents.now }
     ensures { IfOk result (λ found. IsInContents found.fault SectionKind.Custom contents.now found.entry found.offset) }

@@ -13,7 +13,7 @@ use form_reader::{Cursor, Entry, InputEntry, ReadError};
 use std::alloc::Global;
 use std::marker::PhantomData;
 
-/// Entries that stay in the input where modules are read, here read one at a time.
+/// Reads singly the entries that `read_module` leaves in the input.
 pub(crate) struct Single<E> {
     kind: PhantomData<E>,
 }

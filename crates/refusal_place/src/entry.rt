@@ -19,8 +19,8 @@ use form_reader::{Cursor, DefinedFunction, DefinedTag, Entry, HEADER, MAX_MODULE
 use std::alloc::Global;
 use wasm_spec::MemoryType;
 
-/// The offset at which an entry of a section of this kind begins. The sections before it have to be
-/// read, and the entries before it. `None` where there is no such entry, and where there are 2^30
+/// The offset at which an entry of a section of this kind begins. The sections and the entries
+/// before it have to be read. `None` where there is no such entry, and where there are 2^30
 /// bytes or more, which are not looked at.
 ///
 /// # Errors

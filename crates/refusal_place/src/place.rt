@@ -20,13 +20,13 @@ pub enum Fault {
     SectionSize,
     /// The input ends before the section does, which should reach to this offset.
     SectionEnd(u64),
-    /// The section holds one number, and its contents are not that.
+    /// The contents should be one number, and are not.
     Number,
     /// A custom section does not begin with a name.
     Name,
     /// The number of entries is no unsigned number of 32 bits.
     Count,
-    /// The section holds no such entry.
+    /// The bytes spell no entry of the section.
     Entry,
     /// The section has bytes after its last entry.
     Remainder,
@@ -43,12 +43,13 @@ pub struct Place {
     pub section_start: u32,
     /// The entry of the section, from 0 on, where an entry is wrong.
     pub entry: Option<u32>,
-    /// The offset at which begins what is wrong; the length of the input where that ends too early.
+    /// The offset at which the wrong entry or part begins; the length of the input where that ends
+    /// too early.
     pub byte: u32,
     /// What is wrong.
     pub fault: Fault,
-    /// The length of the beginning that decides: no input that begins so is a module. `None` where
-    /// the input ends too early.
+    /// No input that begins with so many of these bytes is a module. `None` where the input ends too
+    /// early.
     pub decided: Option<u32>,
 }
 

@@ -17,8 +17,8 @@ use entity_map::OutOfMemory;
 use form_reader::{Cursor, Nobody, ReadError, next_order, order_of};
 use std::alloc::Global;
 
-/// The length of the section at the front, where it is read; the next one has at least the new
-/// order then.
+/// The length of the section at the front, where it is read; `next` is then the least order of
+/// the one after it.
 pub(crate) fn pass_section(
     alloc: Global,
     rest: &[u8],

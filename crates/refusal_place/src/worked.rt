@@ -9,7 +9,7 @@ ghost use Rattle.refusal_place.specs.Places.{Decides, IsFirstUnspelled, IsPlaceO
 ghost use Rattle.refusal_place.specs.Worked.{in_header, memory_contents, memory_bytes, at_memory, cut_bytes, at_cut};
 
 /// The place of a header that is cut, of a memory that is wrong, and of a section that is cut; and
-/// places beside these, which are not the place.
+/// places that are not theirs.
 pub fn worked_place()
     ensures header { IsPlaceOf (take 4 header) (in_header 4) }
     ensures not_the_byte_before { ¬ IsPlaceOf (take 4 header) (in_header 3) }

@@ -27,7 +27,7 @@ pub record IsFirstBodiless (l : Lists) (entry : ℕ) : Type 0 where
   pub follows : entry ≡ l.imported_functions + length l.bodies
   pub listed : entry < length l.functions
 
--- the body is the first of no function
+-- the body is the first without a function
 pub record IsFirstUnused (l : Lists) (entry : ℕ) : Type 0 where
   pub follows : l.imported_functions + entry ≡ length l.functions
   pub listed : entry < length l.bodies

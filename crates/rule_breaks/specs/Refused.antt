@@ -16,6 +16,6 @@ pub record BreaksFirst (bytes : List ℕ) (b : BrokenRule) : Type 0 where
   pub before : KeepsBefore b.rule of
   pub first : IsFirstBreak b.rule (lists_of_module of) b.place.list b.place.entry
 
--- a module that the bytes spell and that is read satisfies all rules
+-- a module that is spelled by fewer than 2^30 bytes satisfies all rules
 abbrev pub KeepsIfRead : List ℕ → Type 0
 KeepsIfRead bytes = length bytes < 2 ^ 30 → (m : Module) → Spells bytes m → HasNoInterfaceTypes m → Keeps m

@@ -22,7 +22,7 @@ use form_typing::struct_defaults;
 use rule_spec::Rule;
 use std::alloc::Global;
 
-/// The entry that is the first to break a rule, in the first list of the rule in which one does;
+/// The entry that is the first to break a rule, in the first such list of the rule;
 /// none where the module satisfies the rule. The lists were gathered, and their types keep L1.
 pub fn first_break(
     alloc: Global,

@@ -17,7 +17,7 @@ use std::alloc::{AllocError, Global};
 use wasm_spec::UnpackedIndex;
 
 /// The first declared type that names a type past its group, has a supertype that is not before
-/// it, or continues what is no function type; none where the module satisfies L1.
+/// it, or is a continuation of no function type; none where the module satisfies L1.
 pub fn first_bad_type(alloc: Global, source: Source<'_, '_>) -> Result<Option<u32>, AllocError>
     ensures { let l = lists_of_module (source_module source.entry) in IfOk result (Finds (IsDeclaredWell l) l.types) }
 {

@@ -15,7 +15,7 @@ use form_typing::element_is_typed;
 use rule_spec::{Class, Rule};
 use std::alloc::{AllocError, Global};
 
-/// The first element segment that breaks a rule. `defaults` are the types' `struct_defaults`.
+/// The first element segment that breaks a rule. `defaults` are those of `struct_defaults`.
 pub(crate) fn first_element(
     alloc: Global,
     lists: &Lists<'_, '_>,

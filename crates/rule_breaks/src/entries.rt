@@ -34,7 +34,7 @@ pub(crate) fn first_import(lists: &Lists<'_, '_>) -> Result<Option<u32>, AllocEr
     Ok(None)
 }
 
-/// The first table that breaks a rule. `defaults` are the types' `struct_defaults`.
+/// The first table that breaks a rule. `defaults` are those of `struct_defaults`.
 pub(crate) fn first_table(
     alloc: Global,
     lists: &Lists<'_, '_>,

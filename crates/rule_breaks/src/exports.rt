@@ -63,8 +63,8 @@ fn insert_new(pool: &mut StringPool, text: &str) -> Result<bool, OutOfMemory>
     Ok(pool.len() > count)
 }
 
-/// A digest of the names of exports, from which hashes begin: names that are chosen to collide
-/// change it as well.
+/// A digest of the names of exports, from which hashes begin: choosing names to
+/// collide changes it.
 fn seed_of_exports(source: Source<'_, '_>) -> u64 {
     let mut digest = NameDigest::new();
     for export in entries_of::<Export<'_>>(source) {

@@ -17,9 +17,9 @@ use form_types::{Validator, numbering_of_form};
 use rule_spec::Rule;
 use std::alloc::Global;
 
-/// The entry that is the first to break a rule, in the first list of the rule in which one does;
-/// none where the module satisfies the rule. The module satisfies the rules of lower numbers, as
-/// where `check` returns this rule.
+/// The entry that is the first to break a rule, in the first such list of the rule;
+/// none where the module satisfies the rule. It must satisfy the rules of lower numbers, as where
+/// `check` returns this rule.
 pub fn locate_break(
     alloc: Global,
     form: &Form<'_>,

@@ -4,8 +4,8 @@ ghost use Rattle.std.specs.Prelude.{◌≡◌, ◌+◌, IfOk};
 
 use std::alloc::AllocError;
 
-/// The index of an entry in 32 bits. More entries than these count give an `AllocError`: no module
-/// has so many.
+/// The index of an entry in 32 bits. An index past that gives an `AllocError`: no module has so
+/// many entries.
 pub(crate) fn numbered(index: usize) -> Result<u32, AllocError>
     ensures { IfOk result (λ number. number ≡ index) }
 {

@@ -17,7 +17,7 @@ use form_typing::segment_is_typed;
 use rule_spec::{Class, Rule};
 use std::alloc::{AllocError, Global};
 
-/// The first data segment that breaks a rule. `defaults` are the types' `struct_defaults`.
+/// The first data segment that breaks a rule. `defaults` are those of `struct_defaults`.
 pub(crate) fn first_segment<'d>(
     alloc: Global,
     lists: &Lists<'_, 'd>,

@@ -7,8 +7,7 @@ ghost use Rattle.rule_breaks.specs.declared.lists.ModuleList.TheVariants as list
 ghost use Rattle.rule_breaks.specs.Breaks.{IsFirstBreak};
 ghost use Rattle.rule_breaks.specs.Worked.{two_narrow};
 
-/// Of two memories that break rule L4, the first is the break, and no entry of another list. A
-/// function lacks its body, and the second of two exports repeats a name.
+/// Of two memories that break rule L4 the first is the break; no entry of a table is. A function lacks its body, and the second of two exports repeats a name.
 pub fn worked_breaks()
     ensures memory { IsFirstBreak rule.L4 (lists_of_module two_narrow) list.Memories 1 }
     ensures no_later { ¬ IsFirstBreak rule.L4 (lists_of_module two_narrow) list.Memories 2 }

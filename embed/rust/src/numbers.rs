@@ -41,7 +41,7 @@ pub const INTERFACE_TYPES: u32 = 6;
 
 // What is wrong at a place: the field `fault`.
 
-/// the module does not begin with the header
+/// no header of a module; so of a component
 pub const FAULT_HEADER: u32 = 1;
 /// no section has the id
 pub const FAULT_UNKNOWN_SECTION: u32 = 2;
@@ -57,7 +57,7 @@ pub const FAULT_NUMBER: u32 = 6;
 pub const FAULT_NAME: u32 = 7;
 /// the number of entries is no unsigned number of 32 bits
 pub const FAULT_COUNT: u32 = 8;
-/// the entry is none
+/// the entry is malformed
 pub const FAULT_ENTRY: u32 = 9;
 /// bytes follow the last entry of the section
 pub const FAULT_REMAINDER: u32 = 10;
@@ -68,7 +68,7 @@ pub const FAULT_UNSUPPORTED: u32 = 11;
 
 /// the declared types
 pub const IN_TYPES: u32 = 0;
-/// the index space, imports first; so are the next three
+/// the index space, imports first; the next three too
 pub const IN_FUNCTIONS: u32 = 1;
 /// in table types
 pub const IN_TABLE_TYPES: u32 = 2;

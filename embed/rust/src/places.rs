@@ -47,7 +47,7 @@ pub struct Place {
 
 impl fmt::Display for Place {
     fn fmt(&self, f: &mut fmt::Formatter<'_>) -> fmt::Result {
-        write!(f, "byte {:#x}, {}", self.byte, self.sentence)
+        write!(f, "byte {}, {}", self.byte, self.sentence)
     }
 }
 

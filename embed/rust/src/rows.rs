@@ -694,10 +694,10 @@ pub struct Place {
     pub section_start: u32,
     /// The entry of the section, from 0 on, where an entry is wrong; else `u32::MAX`.
     pub entry: u32,
-    /// The offset of what is wrong; the length of the module where it ends too early.
+    /// Where the wrong entry or part begins; the length of the module where it ends too early.
     pub byte: u32,
-    /// Input that begins with so many of these bytes is refused too; `u32::MAX` where the module ends
-    /// too early.
+    /// Whatever follows so many of these bytes, it is refused; `u32::MAX` where the module ends too
+    /// early.
     pub decided: u32,
     /// What is wrong: a number from [`numbers::FAULT_HEADER`](crate::numbers::FAULT_HEADER) on.
     pub fault: u32,
