@@ -62,6 +62,7 @@ LAST = """\
 - That an allocation succeeds: no clause rules out `OutOfMemory`, status 5.
 - Time, stack and memory: no clause bounds them.
 - That a plan is the one that the Rust crate makes: no build of it was run.
+- That each module which the standard accepts has a plan: what is not supported or too large has none.
 - Bodies of functions: their code is not read. The core specification asks more than the ten listed rules, of bodies
   and otherwise. That is not checked: for example, that references fit by subtyping, and that a type fits its
   supertype.
