@@ -806,8 +806,8 @@ typedef struct {
     BOBBINAZURE_LIST(bobbinazure_locals) locals;
     /* How many functions are imported. */
     uint32_t imported_func_count;
-    /* The names of locals, by functions and then by locals; the next two are empty too without
-       native_debug. */
+    /* The names of locals from the custom section name, by functions and then by locals. This
+       list and the next two are empty without native_debug. */
     BOBBINAZURE_LIST(bobbinazure_local_name) local_names;
     /* Of each defined function its locals, a part of the next list. Its parameters are those of
        its type, as of functions. */

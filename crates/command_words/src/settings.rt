@@ -57,7 +57,7 @@ fn read_numbered(word: &str) -> Option<Setting>
     Some(Setting::MaxImage(read_number(digits)?))
 }
 
-/// The rest of the text after the prefix, where it begins with it.
+/// The text behind the prefix, or `None` where the text does not begin with the prefix.
 fn text_after<'a>(text: &'a str, prefix: &str) -> Option<&'a str>
     ensures { MatchOption result ((rest : List ℕ) → text.now ≢ prefix.now ++ rest) (λ rest. text.now ≡ prefix.now ++ rest.now) }
 {

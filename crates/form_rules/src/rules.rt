@@ -47,7 +47,8 @@ const RULES: [Rule; 9] = [
     Rule::L10,
 ];
 
-/// What the rules require of all entries of a kind, which is found before the rules are checked.
+/// Which rules all entries of a kind keep. It is found in one pass, before the rules are checked in
+/// order.
 #[derive(Clone, Copy)]
 pub struct Asked {
     pub globals: GlobalsKeep,

@@ -35,7 +35,7 @@ pub(crate) struct ElementSegments {
     pub passive: PrimaryMap<PassiveElemIndex, TableSegmentElements>,
     /// The type and the length of each passive one.
     pub kinds: PrimaryMap<PassiveElemIndex, (WasmRefType, u64)>,
-    /// The number of each passive one among those.
+    /// For each element segment that is passive, its number among the passive ones.
     pub numbers: SecondaryMap<ElemIndex, Option<PassiveElemIndex>>,
     /// How many segments there are.
     pub count: u32,

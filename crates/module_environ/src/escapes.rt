@@ -12,7 +12,8 @@ use std::marker::Model;
 use wasm_index::FuncIndex;
 use wasm_module::FuncRefIndex;
 
-/// The functions to which references are made, in the order of the first cause.
+/// The functions to which the module makes references, each once, in the order in which it first
+/// does.
 #[derive(Drop)]
 pub(crate) struct Escaping {
     // The number of each function, and `u32::MAX` for one to which no reference is made yet.
@@ -111,7 +112,7 @@ impl Escaping {
         self.order.len()
     }
 
-    /// The functions to which references are made, in the order of the first cause.
+    /// The functions to which the module makes references, in the order in which it first does.
     pub(crate) fn order(&self) -> &[u32]
         ensures listed { result.now ≡ self.now.order }
         ensures in_range { All (λ f. f < self.now.count) result.now }

@@ -39,7 +39,7 @@ fn keep_names(names: &BTreeMap<u32, &str>)
     let _count = names.len();
 }
 
-/// Integers have the bits of their types.
+/// The value of each constant global fits the bits of its type.
 fn keep_sizes(values: &[(DefinedGlobalIndex, GlobalConstValue)])
     ensures { All (λ g. IsSized g.1) values.now }
 {

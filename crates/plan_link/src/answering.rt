@@ -84,7 +84,7 @@ fn told_by(refusal: LinkError) -> Result<ImportAnswer, OutOfMemory>
     }
 }
 
-// The one refusal that is possible where a module is held and nothing is defined yet.
+// A module that is held, with nothing defined yet, is refused for want of memory alone.
 fn memory(_refusal: LinkError) -> OutOfMemory
     requires { _refusal ≡ refused.OutOfMemory }
 {

@@ -1,4 +1,4 @@
-//! A module that is run, and what is seen of it then.
+//! A module that is run: its bytes, its imports, and how its memories and tables begin.
 
 use plan_run::{Value, Way};
 
@@ -9,8 +9,9 @@ pub(crate) struct Row {
     pub(crate) sections: &'static [u8],
     /// Whether memories begin as images.
     pub(crate) images: bool,
-    /// Whether tables do.
+    /// Whether tables begin as images.
     pub(crate) lazy: bool,
+    /// Whether memories map their images or are written byte by byte.
     pub(crate) way: Way,
     /// The numbers of the imported globals.
     pub(crate) globals: &'static [u32],

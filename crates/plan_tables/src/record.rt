@@ -170,8 +170,8 @@ pub struct LocalNameRow<'d> {
 pub struct DebugRecord<'d> {
     /// How many functions are imported: `imported_func_count`.
     pub imports: u32,
-    /// The names of locals, by functions and then by locals; the next two are empty too without
-    /// `native_debug`: `local_names`.
+    /// The names of locals from the custom section `name`, by functions and then by locals. This
+    /// list and the next two are empty without `native_debug`: `local_names`.
     pub names: &'d [LocalNameRow<'d>],
     /// Of each defined function its locals, a part of the next list. Its parameters are those of
     /// its type, as of `functions`: `function_metadata`.

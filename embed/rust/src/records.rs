@@ -158,8 +158,8 @@ pub(crate) struct PlanRecord {
     pub(crate) locals: List<Locals>,
     /// How many functions are imported.
     pub(crate) imported_func_count: u32,
-    /// The names of locals, by functions and then by locals; the next two are empty too without
-    /// `native_debug`.
+    /// The names of locals from the custom section `name`, by functions and then by locals. This
+    /// list and the next two are empty without `native_debug`.
     pub(crate) local_names: List<LocalName>,
     /// Of each defined function its locals, a part of the next list. Its parameters are those of
     /// its type, as of `functions`.
