@@ -105,7 +105,7 @@ def page(top, all_sources):
     """The whole text of docs/THEOREM.md."""
     path, function = RUN
     contract = closure.Contract(top / path, function)
-    reached = closure.Closure(all_sources, closure.cited(contract, contract.text()))
+    reached = closure.Closure(all_sources, closure.cited(contract, contract.text()), closure.FOLLOWS)
     counts = {"definitions": f"{len(reached.definitions):,}", "lines": f"{reached.lines():,}", "files": len(reached.files())}
     clauses = "\n".join(contract.lines)
     parts = [HEAD, headline(top), "", CONTRACT.format(path=path, **counts), f"```rust\n{clauses}\n```\n", DEFINITIONS]

@@ -16,6 +16,8 @@ SET_FIELD = re.compile(rf"(?<=[{{;])\s*«?{WORD}»?\s*=(?!=)")
 FIELD_LINE = re.compile(rf"^\s+{WORD}\s=\s")
 # The format, the rules, and what a plan and a module leave: a reader begins with these, where they are reached.
 READ_FIRST = ["Spells", "Keeps", "AgreesInAll"]
+# Records of what follows from the rest: a reader may pass over them, and what they alone cite.
+FOLLOWS = frozenset(["AlsoHolds"])
 COMMENT = re.compile(r"(^|\s)--(\s.*)?$")
 
 
@@ -97,8 +99,8 @@ def cited(file, text, bound=frozenset()):
 class Closure:
     """What is reached: definitions in the order of reading, each behind those that it cites; the Rust types; the words of the kit."""
 
-    def __init__(self, all_sources, roots):
-        self.sources = all_sources
+    def __init__(self, all_sources, roots, passed_over=frozenset()):
+        self.sources, self.passed_over = all_sources, passed_over
         self.definitions, self.rust_types, self.words, self.unknown = {}, set(), set(), set()
         for root in sorted(roots):
             self.reach(root)
@@ -128,7 +130,7 @@ class Closure:
         if key in self.definitions:
             return
         self.definitions[key] = None
-        for other in sorted(cited(file, *statement_of(definition))):
+        for other in [] if definition.name in self.passed_over else sorted(cited(file, *statement_of(definition))):
             self.reach(other)
         # Behind what it cites.
         del self.definitions[key]

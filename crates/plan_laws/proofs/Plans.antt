@@ -7,7 +7,6 @@ use Rattle.std.specs.Global.{Vec}
 use Rattle.std.proofs.lemmas.List.{length-map}
 use Rattle.entity_map.specs.Secondary.{value_at}
 use Rattle.type_data.specs.ListLaws.{map-twice}
-use Rattle.type_spec.specs.Taken.{SameLists}
 use Rattle.wasm_spec.specs.Module as plain
 use Rattle.rule_spec.specs.Rules.{Keeps}
 use Rattle.wasm_index.specs.declared.index.Index.{Index}
@@ -35,7 +34,6 @@ use Rattle.table_images.specs.Steps.{images_of}
 use Rattle.table_images.specs.Views.{image_of, initial_of, active_elements_of, planned_tables_of}
 use Rattle.table_images.proofs.Tables.{planned-initials}
 use Rattle.custom_sections.specs.NameReading.{NameLists}
-use Rattle.module_types.specs.Held.{built_of}
 use Rattle.init_plan.specs.declared.translation.ModuleTranslation.{ModuleTranslation}
 use Rattle.init_plan.specs.Startup.{startup_with}
 use Rattle.init_plan.specs.Tables.{own_tables, plan_of_tables}
@@ -48,7 +46,7 @@ use Rattle.plan.specs.declared.plan.Plan.{Plan}
 use Rattle.translate.specs.Initialised.{IsInitialised, Finds, passive_bytes_of}
 use Rattle.translate.specs.Contexts.{context_of}
 use Rattle.translate.specs.Options.{Options, header_size, runs, startup_by, BecomesImages, PlansMemories, PlansTables}
-use Rattle.translate.specs.Planned.{IsPlanOf, IsPlanned, nothing_met}
+use Rattle.translate.specs.Planned.{IsPlanOf, IsPlanned, HoldsTypes}
 use Rattle.plan_laws.specs.Same.{SameModule, SameTranslation, SamePlan}
 use Rattle.plan_laws.specs.Kept.{IsKept}
 use Rattle.plan_laws.proofs.Ascending.{signatures-same}
@@ -293,7 +291,7 @@ module _ (one-startup : OneStartup) (one-context : OneContext) (o : Options) (by
 
   types : p.types ≡ q.types
   types = same-list bytes m read keeps (runs (startup_by m (memory_plan_of t) (plan_of_tables t))) p.types q.types a.types
-      (subst (λ (k : Startup). SameLists (built_of q.types nothing_met) (interned_list m (runs k))) (sym starts) b.types)
+      (subst (λ (k : Startup). HoldsTypes q.types (interned_list m (runs k))) (sym starts) b.types)
 
   pub same-plan : SamePlan p q
   same-plan = record {

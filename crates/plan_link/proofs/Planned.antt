@@ -1,5 +1,5 @@
 -- The translation and the types of a plan may be registered and linked.
-use Rattle.std.proofs.Common.{◌≡◌, ◌∙◌, ◌<◌, ◌^◌, ℕ, Bool, List, length, All, sym, ap, subst, arith}
+use Rattle.std.proofs.Common.{◌≡◌, ◌∙◌, ◌<◌, ◌^◌, ℕ, Bool, List, None, length, All, sym, ap, subst, arith}
 use Rattle.std.proofs.lemmas.List.{length-map}
 use Rattle.wasm_spec.specs.TypeData.{Group}
 use Rattle.wasm_spec.specs.Module.{Export}
@@ -23,7 +23,7 @@ use Rattle.module_environ.specs.Types.{interned_list}
 use Rattle.plan.specs.declared.plan.Plan.{Plan}
 use Rattle.translate.specs.Initialised.{IsInitialised}
 use Rattle.translate.specs.Options.{Options, startup_by, runs}
-use Rattle.translate.specs.Planned.{IsPlanned, nothing_met}
+use Rattle.translate.specs.Planned.{IsPlanned}
 use Rattle.module_types.specs.Listed.{Listed, list_of}
 use Rattle.wasm_types.specs.declared.entity.EntityIndex.{EntityIndex}
 use Rattle.import_match.specs.Linking.{IsTypeBelow}
@@ -52,7 +52,7 @@ module _ (o : Options) (bytes : List ℕ) (plan : Plan) (is : IsPlanned o bytes 
   kind = startup_by m (memory_plan_of plan.translation) (plan_of_tables plan.translation)
 
   abbrev held : Built
-  held = built_of plan.types nothing_met
+  held = built_of plan.types (λ f. None)
 
   abbrev list : Built
   list = interned_list m (runs kind)

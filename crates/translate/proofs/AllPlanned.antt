@@ -26,7 +26,7 @@ use Rattle.module_environ.specs.Translated.{IsTranslated}
 use Rattle.module_environ.specs.Types.{interned_list}
 use Rattle.translate.specs.Options.{InitOptions, startup_by}
 use Rattle.translate.specs.Initialised.{Initialises}
-use Rattle.translate.proofs.PlannedMemories.{HoldsData, MemoriesTell, initialises_memories}
+use Rattle.translate.proofs.PlannedMemories.{HoldsData, MemoriesTell, initialises_memories, memories_also}
 use Rattle.translate.proofs.PlannedTables.{holds_still, plans_tables}
 use Rattle.translate.proofs.Started.{IsStarted, next, starts_first, first_room, has_room, few_types, raised-memories, raised-tables}
 use Rattle.translate.proofs.Unchanged.{changes_both}
@@ -121,6 +121,7 @@ module _ (i : InitOptions) {bytes : List ℕ} {old mid new : ModuleTranslation} 
       tables = plans_tables i told.meaning mid (plan_of_tables new)
           (holds_still told.meaning old mid plans.memories_same told.ready.holds_tables) plans.tables;
       startup = last_started.startup;
+      also = memories_also i told.meaning old (holds_data told) mid new plans.memories told.keeps plans.tables_same;
     };
     types = last_started.built;
     sound = last_started.sound;

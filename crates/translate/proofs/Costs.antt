@@ -171,7 +171,7 @@ module _ (i : InitOptions) (bytes : List ℕ) (m : plain.Module) (read : IsReada
         let back : imports + (j - imports) ≡ j = omega (arith, low) in
         let home : slice_get defined (j - imports) ≡ Some placed.memory = ap (λ n. slice_get defined (n - imports)) (sym c.on) ∙ placed.is_memory in
         let there = ap (slice_get images-are.images) back ∙ at in
-        let tight = is.memories.tight images-are (j - imports) placed.memory image home there in
+        let tight = is.also.tight images-are (j - imports) placed.memory image home there in
         let short = subst (λ (n : ℕ). length image.bytes < max (2 * data_size (bytes_on n segments)) i.max_image + 2 * i.page_size) back tight.short in
         (low, omega (arith, short))
 

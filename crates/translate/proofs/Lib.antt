@@ -1,6 +1,7 @@
 mod Segments
 mod Started
 pub mod Unchanged
+mod EqualTypes
 mod PlannedMemories
 mod PlannedTables
 mod Refusals

@@ -15,7 +15,10 @@ use Rattle.init_plan.specs.Held.{HoldsMemories}
 use Rattle.init_plan.specs.Tables.{OnlyTableInitChanges}
 use Rattle.module_environ.specs.Initialisers.{passive_data_from}
 use Rattle.translate.specs.Options.{InitOptions, images, passive_bytes, HasDataSize}
+use Rattle.rule_spec.specs.Rules.{Keeps}
+use Rattle.translate.specs.Also.{AlsoHolds}
 use Rattle.translate.specs.Initialised.{InitialisesMemories}
+use Rattle.translate.proofs.EqualTypes.{told-apart}
 use Rattle.translate.proofs.Segments.{finds}
 
 -- passive segments are found at the last of the runtime data
@@ -64,11 +67,17 @@ module _ (i : InitOptions) (m : Module) (old : ModuleTranslation) (has : HoldsDa
       );
       imaged = λ is. (to_module (λ n ms ss ps. IsStatic (images i) n ms ss) (tell.begins.images is).0, (tell.begins.images is).1);
       processed = tell.processed;
-      tight = to_module (λ n ms ss ps. HasTightImages (images i) n ms ss ps (memory_plan_of mid)) tell.tight;
       ranges = tell.ranges;
-      whole_ranges = tell.whole_ranges;
       fits = tell.fits;
       passive = λ index. finds (memory_plan_of mid) (segments m) _ (rw has.passive at tell.found)
           (λ k none. tell.others k (rw has.passive none)) index (slice_get (segments m) index) refl;
       in_order = rw has.passive at tell.found;
+    })
+
+    -- so do its images
+    pub memories_also : Keeps m → OnlyTableInitChanges mid new → AlsoHolds i m new
+    memories_also keeps same = rw same (record {
+      equal_types = told-apart m keeps;
+      tight = to_module (λ n ms ss ps. HasTightImages (images i) n ms ss ps (memory_plan_of mid)) tell.tight;
+      whole_ranges = tell.whole_ranges;
     })

@@ -1,29 +1,22 @@
 -- An initialised translation, its types, their layouts and the layout of the context are the plan
 -- of the module.
 use Rattle.std.proofs.Common.{◌≡◌, ◌∙◌, ◌<◌, ◌≤◌, ℕ, List, length, get_or, slice_index_or, All, Any, inl, inr, sym, ap, arith}
-use Rattle.std.specs.Prelude.{◌⊎◌, ◌↔◌}
+use Rattle.std.specs.Prelude.{◌⊎◌}
 use Rattle.std.proofs.lemmas.List.{length-map, get_or-map}
-use Rattle.wasm_spec.specs.Module.{Module, types}
+use Rattle.wasm_spec.specs.Module.{Module}
 use Rattle.type_data.specs.Names.{named}
-use Rattle.type_spec.specs.Equality.{SameType}
 use Rattle.type_spec.specs.Interned.{Interned, Built}
-use Rattle.type_spec.specs.Taken.{NameEarlier, SameLists}
 use Rattle.rule_spec.specs.Rules.{Keeps}
 use Rattle.replay_spec.specs.Plan.{MemoryPlan}
 use Rattle.replay_spec.specs.Tables.{TablePlan}
-use Rattle.form_types.specs.Placed.{placed_groups}
 use Rattle.wasm_types.specs.declared.sub.WasmSubType.{WasmSubType}
 use Rattle.module_types.specs.Views.{interned_number, interned_of}
 use Rattle.module_types.specs.TypeList.{TypeList}
 use Rattle.module_types.specs.Builder.{BuilderState}
-use Rattle.module_types.specs.Held.{built_of}
-use Rattle.module_types.proofs.EqualLists.{declared}
-use Rattle.module_types.proofs.NamingEarlier.{keeps-earlier}
 use Rattle.init_plan.specs.declared.translation.ModuleTranslation.{ModuleTranslation}
 use Rattle.init_plan.specs.Views.{memory_plan_of}
 use Rattle.init_plan.specs.Tables.{plan_of_tables}
-use Rattle.module_environ.specs.Types.{interned_list, interned_at}
-use Rattle.module_environ.proofs.DeclaredLooks.{declared-long}
+use Rattle.module_environ.specs.Types.{interned_list}
 use Rattle.plan.specs.declared.error.TranslateError.{TranslateError}
 use Rattle.plan.specs.declared.error.TranslateError.TheVariants as refusal
 use Rattle.gc_layout.specs.Objects.{gc_layout_of, fixed_size}
@@ -33,19 +26,11 @@ use Rattle.wasm_module.specs.Record.{record_of}
 use Rattle.translate.specs.Options.{Options, header_size, startup_by, runs}
 use Rattle.translate.specs.Contexts.{object_size, IsInterned, HasLargeObject, HasSizes, size_of_context, Overflows}
 use Rattle.translate.specs.Initialised.{Initialises}
-use Rattle.translate.specs.Planned.{HasCause, KeepsAnd, nothing_met}
+use Rattle.translate.specs.Planned.{HasCause, KeepsAnd, HoldsTypes}
 use Rattle.translate.specs.Valid.{IsValid}
 use Rattle.translate.proofs.Counts.{counts_same}
 use Rattle.translate.proofs.ObjectSizes.{same-size}
 use Rattle.translate.proofs.PlansFit.{valid-fits}
-
--- two declared types have one index exactly where they are equal
-pub told-apart : (m : Module) → Keeps m → (i j : ℕ) → i < length (types m) → j < length (types m)
-    → (interned_at m i ≡ interned_at m j) ↔ SameType (placed_groups m) (placed_groups m) i j
-told-apart m keeps i j below_i below_j =
-    let near : NameEarlier 0 (placed_groups m) = keeps-earlier m keeps in
-    let long = declared-long m near in
-    declared (placed_groups m) near i j (omega (arith, long, below_i)) (omega (arith, long, below_j))
 
 -- what a list of types holds, once it is finished
 module _ (o : Options) {bytes : List ℕ} {t : ModuleTranslation} {b : BuilderState} (init : Initialises o.init bytes t b) {l : TypeList} (finished : l ≡ b.list) where
@@ -58,7 +43,7 @@ module _ (o : Options) {bytes : List ℕ} {t : ModuleTranslation} {b : BuilderSt
   abbrev tables : TablePlan
   tables = plan_of_tables t
 
-  pub same-lists : SameLists (built_of l nothing_met) (interned_list init.meaning (runs (startup_by init.meaning (memory_plan_of t) (plan_of_tables t))))
+  pub same-lists : HoldsTypes l (interned_list init.meaning (runs (startup_by init.meaning (memory_plan_of t) (plan_of_tables t))))
   same-lists = rw finished (record {
     types = ap (λ (x : Built). x.types) init.types;
     groups = ap (λ (x : Built). x.groups) init.types;

@@ -1,16 +1,13 @@
 -- A translation whose memories and tables are planned.
 use Rattle.std.specs.Prelude.{◌≡◌, ℕ, ◌-◌, ◌^◌, ◌<◌, List, false, length, map, sum_by, slice_get, Option, Some, None}
 use Rattle.std.specs.Option.{option_and_then}
-use Rattle.wasm_spec.specs.Module.{Module, DataKind, Passive, Active, Segment, segments, imported_memories, defined_memories}
+use Rattle.wasm_spec.specs.Module.{Module, DataKind, Passive, Active, Segment, segments}
 use Rattle.rule_spec.specs.Rules.{Keeps}
 use Rattle.wasm_index.specs.Index.{index_of}
-use Rattle.replay_spec.specs.Held.{held_segments}
-use Rattle.replay_spec.specs.Images.{image_memory_of}
 use Rattle.replay_spec.specs.Plan.{ranges_from}
 use Rattle.module_types.specs.Builder.{BuilderState, builder_view}
 use Rattle.init_plan.specs.declared.translation.ModuleTranslation.{ModuleTranslation}
 use Rattle.init_plan.specs.Views.{memory_plan_of, ranges_of, IsSegmented, IsProcessed, FindsInOrder}
-use Rattle.init_plan.specs.Images.{HasTightImages, HasWholeRanges}
 use Rattle.table_images.specs.Left.{IsLeft}
 use Rattle.init_plan.specs.Tables.{plan_of_tables, AreCounted}
 use Rattle.init_plan.specs.Held.{plan_of_globals}
@@ -21,6 +18,7 @@ use Rattle.module_environ.specs.Readable.{IsReadable}
 use Rattle.module_environ.specs.Translation.{IsTranslation}
 use Rattle.module_environ.specs.Types.{interned_list, type_index}
 use Rattle.translate.specs.Options.{InitOptions, images, passive_bytes, startup_by, runs, BecomesImages, PlansMemories, PlansTables}
+use Rattle.translate.specs.Also.{AlsoHolds}
 
 -- the bytes of a data segment that is passive
 abbrev pub bytes_if_passive : DataKind → List ℕ → Option (List ℕ)
@@ -69,12 +67,8 @@ pub record InitialisesMemories (i : InitOptions) (m : Module) (t : ModuleTransla
   pub segmented : IsSegmented t.module.memory_initialization → (¬ BecomesImages i m) × (t.data_align ≡ None)
   pub imaged : ¬ IsSegmented t.module.memory_initialization → BecomesImages i m × (t.data_align ≡ Some i.page_size)
   pub processed : IsProcessed t.memory_init
-  -- each image is complete pages within its memory, has the contents, and is tight
-  pub tight : HasTightImages (images i) (length (imported_memories m)) (map image_memory_of (defined_memories m)) (held_segments m)
-      (passive_bytes m) (memory_plan_of t)
-  -- the ranges of runtime data are end to end from 0, those of images from page to page
+  -- the ranges of runtime data are end to end from 0
   pub ranges : ranges_of t.module ≡ ranges_from 0 (map length (memory_plan_of t).runtime)
-  pub whole_ranges : HasWholeRanges i.page_size (memory_plan_of t).images (ranges_of t.module)
   pub fits : sum_by length (memory_plan_of t).runtime < 2 ^ 32
   -- each passive segment is found with its bytes, and nothing else is found
   pub passive : (index : ℕ) → Finds (memory_plan_of t).runtime ((memory_plan_of t).passive index) (option_and_then passive_bytes_of (slice_get (segments m) index))
@@ -94,6 +88,8 @@ pub record IsInitialised (i : InitOptions) (bytes : List ℕ) (m : Module) (t : 
   pub tables : PlansTables i m (plan_of_tables t)
   -- startup runs exactly when something remains to be done; its type comes last
   pub startup : t.module.startup ≡ startup_with (startup_by m (memory_plan_of t) (plan_of_tables t)) (type_index (length (interned_list m false).types))
+  -- it follows from the rest, and a reader may pass over it
+  pub also : AlsoHolds i m t
 
 -- the bytes spell a module that keeps the listed rules; this is its translation, planned, and the
 -- builder holds its types, with a startup type exactly where startup may run

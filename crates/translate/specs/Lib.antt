@@ -1,6 +1,7 @@
 pub mod Options
 pub mod Contexts
 pub mod Valid
+pub mod Also
 pub mod Initialised
 pub mod Planned
 pub mod Costs

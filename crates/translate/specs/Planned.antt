@@ -1,22 +1,19 @@
 -- What a plan says of a module, and why there is none.
-use Rattle.std.specs.Prelude.{◌≡◌, ◌⊎◌, ◌↔◌, ℕ, ◌^◌, ◌<◌, ◌≤◌, List, length, map, Option, None, option_map, Result, Ok, Err}
-use Rattle.wasm_spec.specs.Module as plain
+use Rattle.std.specs.Prelude.{◌≡◌, ◌⊎◌, ℕ, ◌^◌, ◌≤◌, List, length, map, option_map, Result, Ok, Err}
 use Rattle.wasm_spec.specs.Module.{Module}
 use Rattle.wasm_spec.specs.Grammar.{Spells, Stops}
 use Rattle.wasm_spec.specs.declared.operators.What.{What}
-use Rattle.type_spec.specs.Equality.{SameType}
-use Rattle.type_spec.specs.Taken.{SameLists}
+use Rattle.type_spec.specs.Interned.{Built}
 use Rattle.rule_spec.specs.Rules.{Keeps}
-use Rattle.form_types.specs.Placed.{placed_groups}
-use Rattle.wasm_types.specs.declared.func.WasmFuncType.{WasmFuncType}
-use Rattle.module_types.specs.Views.{TypeIndex}
-use Rattle.module_types.specs.Held.{built_of}
+use Rattle.wasm_index.specs.Index.{number_of}
+use Rattle.module_types.specs.Views.{interned_of, span_of}
+use Rattle.module_types.specs.TypeList.{TypeList}
 use Rattle.init_plan.specs.Views.{memory_plan_of}
 use Rattle.init_plan.specs.Tables.{plan_of_tables}
 use Rattle.gc_layout.specs.Objects.{object_layout, gc_layout_of}
 use Rattle.vm_offsets.specs.Layouts.{fields_of}
 use Rattle.module_environ.specs.Readable.{IsReadable, Breaks}
-use Rattle.module_environ.specs.Types.{interned_list, interned_at}
+use Rattle.module_environ.specs.Types.{interned_list}
 use Rattle.plan.specs.declared.plan.Plan.{Plan}
 use Rattle.plan.specs.declared.error.TranslateError.{TranslateError}
 use Rattle.plan.specs.declared.error.TranslateError.TheVariants as refusal
@@ -24,9 +21,11 @@ use Rattle.translate.specs.Options.{InitOptions, Options, header_size, startup_b
 use Rattle.translate.specs.Contexts.{context_of, HasSizes, Overflows}
 use Rattle.translate.specs.Initialised.{IsInitialised}
 
--- a list of types says nothing of where mapped types were seen
-abbrev pub nothing_met : WasmFuncType → Option TypeIndex
-nothing_met f = None
+-- the list has these types, with the range of each group and the trampolines
+pub record HoldsTypes (l : TypeList) (b : Built) : Type 0 where
+  pub types : map interned_of l.types ≡ b.types
+  pub groups : map span_of l.groups ≡ b.groups
+  pub trampolines : map (option_map number_of) l.trampolines ≡ b.trampolines
 
 -- the plan is that of the module
 pub record IsPlanOf (o : Options) (bytes : List ℕ) (m : Module) (plan : Plan) : Type 0 where
@@ -35,10 +34,7 @@ pub record IsPlanOf (o : Options) (bytes : List ℕ) (m : Module) (plan : Plan) 
   pub translation : IsInitialised o.init bytes m plan.translation
   -- its types are the interned types of the module, with a startup type exactly where startup may
   -- run
-  pub types : SameLists (built_of plan.types nothing_met) (interned_list m (runs (startup_by m (memory_plan_of plan.translation) (plan_of_tables plan.translation))))
-  -- two declared types have one index exactly where they are equal by group and position
-  pub equal_types : (i j : ℕ) → i < length (plain.types m) → j < length (plain.types m)
-      → (interned_at m i ≡ interned_at m j) ↔ SameType (placed_groups m) (placed_groups m) i j
+  pub types : HoldsTypes plan.types (interned_list m (runs (startup_by m (memory_plan_of plan.translation) (plan_of_tables plan.translation))))
   -- each type has the layout of its objects
   pub layouts : map (option_map object_layout) plan.layouts ≡ map (λ t. gc_layout_of (header_size o.collector) t.composite_type.inner) plan.types.types
   -- the context has the module's counts

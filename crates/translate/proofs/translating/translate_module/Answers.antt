@@ -5,7 +5,7 @@ use Rattle.translate.proofs.Costs.{costs}
 use Rattle.translate.proofs.Counts.{holds_imports, counts_same, few_escape}
 use Rattle.translate.proofs.PlansFit.{valid-begins, valid-fits}
 use Rattle.translate.proofs.Printable.{is_printable}
-use Rattle.translate.proofs.Planning.{told-apart, same-lists, layout-cause, layout-complete, context-cause, sizes-fit}
+use Rattle.translate.proofs.Planning.{same-lists, layout-cause, layout-complete, context-cause, sizes-fit}
 use Rattle.translate.proofs.translating.translate_module.Goals as goal
 
 -- ---- there is no translation
@@ -66,7 +66,6 @@ returns-in-Ok-new-clause-planned c =
       planned = record {
         translation = init.initialised;
         types = same-lists o init c.finish-types.ensures.built;
-        equal_types = told-apart init.meaning init.keeps;
         layouts = c.in-Ok.ensures.layouts;
         offsets = c.in-Ok-new.ensures.ok ∙ counts_same o init.initialised;
         sizes = sizes-fit o init c.finish-types.ensures.built c.in-Ok.ensures.fits (λ large. let e : false ≡ true = c.in-Ok-new.ensures.overflow.1 large in cc);
