@@ -11,6 +11,9 @@ pub mod Parts
 pub mod Rest
 pub mod Plans
 pub mod Rising
+pub mod InternedParts
+pub mod NameBytes
+pub mod FoundBytes
 pub mod Text
 pub mod Stops
 pub mod Refusals
