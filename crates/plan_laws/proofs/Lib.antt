@@ -25,3 +25,5 @@ pub mod TypeTexts
 pub mod OperatorTexts
 pub mod LineTexts
 pub mod ListTexts
+pub mod ModuleContents
+pub mod SpelledSums
