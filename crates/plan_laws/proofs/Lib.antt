@@ -26,4 +26,7 @@ pub mod OperatorTexts
 pub mod LineTexts
 pub mod ListTexts
 pub mod ModuleContents
+pub mod SpelledParts
+pub mod SpelledEntries
+pub mod SpelledSections
 pub mod SpelledSums

@@ -1,9 +1,9 @@
 -- What the entries of a module's lists hold, counted.
-use Rattle.std.specs.Prelude.{ℕ, ◌+◌, List, [], length, sum_by, unwrap_or}
+use Rattle.std.specs.Prelude.{ℕ, ◌+◌, [], length, sum_by, unwrap_or}
 use Rattle.std.specs.List.{flat_map}
 use Rattle.wasm_spec.specs.declared.types.UnpackedIndex.{UnpackedIndex}
 use Rattle.wasm_spec.specs.TypeData.{Composite, Func, Array, Struct, Cont, Exn, SubType}
-use Rattle.wasm_spec.specs.Module.{Import, TableDef, GlobalDef, Export, ElementKind, PassiveElement, DeclaredElement, ActiveElement, ElementItems, Functions, Expressions, Element, DataKind, Passive, Active, Segment, Payload, Custom, Module, groups, types, imports, function_types_of_section, tables_of_section, memories_of_section, tags_of_section, globals_of_section, exports_of_section, elements_of_section, bodies_of_section, segments_of_section}
+use Rattle.wasm_spec.specs.Module.{Import, TableDef, GlobalDef, Export, ElementKind, PassiveElement, DeclaredElement, ActiveElement, ElementItems, Functions, Expressions, Element, DataKind, Passive, Active, Segment, Payload, Custom, Module, groups, types, imports, function_types_of_section, tables_of_section, memories_of_section, tags_of_section, globals_of_section, exports_of_section, elements_of_section, bodies_of_section, segments}
 
 -- the fields of a type, or its parameters and results
 abbrev pub composite_parts : Composite UnpackedIndex UnpackedIndex → ℕ
@@ -65,12 +65,12 @@ abbrev pub item_operators : Element → ℕ
 item_operators e = operators_of_items e.items
 
 -- the operators of the offset of an active data segment
-abbrev pub place_of_kind : DataKind → ℕ
-place_of_kind Passive = 0
-place_of_kind (Active memory offset) = length offset
+abbrev pub active_operators : DataKind → ℕ
+active_operators Passive = 0
+active_operators (Active memory offset) = length offset
 
 abbrev pub segment_operators : Segment → ℕ
-segment_operators s = place_of_kind s.kind
+segment_operators s = active_operators s.kind
 
 abbrev pub segment_bytes : Segment → ℕ
 segment_bytes s = length s.bytes
@@ -80,19 +80,24 @@ abbrev pub custom_bytes : Payload → ℕ
 custom_bytes (Custom name bytes) = length name + length bytes
 custom_bytes p = 0
 
--- all that a module lists: its entries, and what they hold
+-- how many entries the lists of a module have
+abbrev pub counted : Module → ℕ
+counted m =
+    length (groups m) + length (types m) + length (imports m) + length (flat_map function_types_of_section m)
+    + length (flat_map tables_of_section m) + length (flat_map memories_of_section m) + length (flat_map tags_of_section m)
+    + length (flat_map globals_of_section m) + length (flat_map exports_of_section m) + length (flat_map elements_of_section m)
+    + length (flat_map bodies_of_section m) + length (segments m)
+
+-- what these entries hold: parts of types, operators, items of element segments, bytes of names and
+-- of data; and the bytes of custom sections
+abbrev pub held : Module → ℕ
+held m =
+    sum_by member_parts (types m) + sum_by import_name_bytes (imports m) + sum_by export_name_bytes (flat_map exports_of_section m)
+    + sum_by cell_operators (flat_map tables_of_section m) + sum_by first_operators (flat_map globals_of_section m)
+    + sum_by element_operators (flat_map elements_of_section m) + sum_by element_items (flat_map elements_of_section m)
+    + sum_by item_operators (flat_map elements_of_section m)
+    + sum_by segment_operators (segments m) + sum_by segment_bytes (segments m) + sum_by custom_bytes m
+
+-- all that a module lists
 abbrev pub listed : Module → ℕ
-listed m =
-    length (groups m) + length (types m) + sum_by member_parts (types m)
-    + length (imports m) + sum_by import_name_bytes (imports m)
-    + length (flat_map function_types_of_section m)
-    + length (flat_map tables_of_section m) + sum_by cell_operators (flat_map tables_of_section m)
-    + length (flat_map memories_of_section m) + length (flat_map tags_of_section m)
-    + length (flat_map globals_of_section m) + sum_by first_operators (flat_map globals_of_section m)
-    + length (flat_map exports_of_section m) + sum_by export_name_bytes (flat_map exports_of_section m)
-    + length (flat_map elements_of_section m) + sum_by element_operators (flat_map elements_of_section m)
-    + sum_by element_items (flat_map elements_of_section m) + sum_by item_operators (flat_map elements_of_section m)
-    + length (flat_map bodies_of_section m)
-    + length (flat_map segments_of_section m) + sum_by segment_operators (flat_map segments_of_section m)
-    + sum_by segment_bytes (flat_map segments_of_section m)
-    + sum_by custom_bytes m
+listed m = counted m + held m
