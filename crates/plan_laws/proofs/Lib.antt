@@ -14,6 +14,10 @@ pub mod Rising
 pub mod InternedParts
 pub mod NameBytes
 pub mod FoundBytes
+pub mod SumLaws
+pub mod CustomNames
+pub mod MemoryCounts
+pub mod TableCounts
 pub mod Text
 pub mod Stops
 pub mod Refusals
