@@ -18,6 +18,8 @@ pub mod SumLaws
 pub mod CustomNames
 pub mod MemoryCounts
 pub mod TableCounts
+pub mod PlanTypes
+pub mod AscendingCount
 pub mod Text
 pub mod Stops
 pub mod Refusals
