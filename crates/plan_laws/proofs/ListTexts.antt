@@ -1,6 +1,6 @@
 -- How many bytes the lines of lists have.
 use Rattle.std.proofs.Common.{◌≡◌, ℕ, ◌+◌, ◌-◌, ◌*◌, ◌^◌, ◌<◌, ◌≤◌, List, [], ◌∷◌, ◌++◌, length, Bool, true, false, cond, Option, Some, None, refl, arith, length-append, lit≤}
-use Rattle.std.specs.Prelude.{◌==◌, codes, decimal, All, IfSome, sum_by}
+use Rattle.std.specs.Prelude.{◌==◌, codes, decimal, All, IfSome, sum_by, count_by, is_some}
 use Rattle.std.specs.Borrow.{Bor}
 use Rattle.std.specs.Global.{Vec}
 use Rattle.std.specs.List.{flat_map}
@@ -8,7 +8,7 @@ use Rattle.std.specs.declared.ops.Range.{Range}
 use Rattle.std.proofs.lemmas.List.Elements.{All-head, All-tail, All-weaker, All-from_recursion}
 use Rattle.std.proofs.lemmas.List.Sums.{sum_by-cons}
 use Rattle.entity_map.specs.Entity.{reserved_number}
-use Rattle.entity_map.specs.Keyed.{keyed}
+use Rattle.entity_map.specs.Keyed.{keyed, keyed_from}
 use Rattle.entity_map.specs.declared.pool.Atom.{Atom}
 use Rattle.wasm_index.specs.declared.index.Index.{Index}
 use Rattle.wasm_index.specs.declared.spaces.DataSpace.{DataSpace}
@@ -303,9 +303,33 @@ pub passive-data-short : (segment : Index DataSpace) (index : Option (Index Runt
 passive-data-short segment None h i = omega arith
 passive-data-short segment (Some index) h i = omega (arith, two-numbers (codes "passive-data") (number_of segment) (number_of index) (wide _ h) (wide _ i))
 
+-- those that are not found have no line
+passive-from : (n : ℕ) (places : List (Option (Index RuntimeDataSpace)))
+    → All (λ (p : Index DataSpace × Option (Index RuntimeDataSpace)). length (passive_lines p.0 p.1) ≤ 128) (keyed_from index_of n places)
+    → length (flat_map (λ (p : Index DataSpace × Option (Index RuntimeDataSpace)). passive_lines p.0 p.1) (keyed_from index_of n places)) ≤ 128 * count_by is_some places
+passive-from n [] all = omega arith
+passive-from n (None ∷ places) all =
+    let P : Index DataSpace × Option (Index RuntimeDataSpace) → Type 0 = λ p. length (passive_lines p.0 p.1) ≤ 128 in
+    omega (
+      arith,
+      passive-from (n + 1) places (All-tail P (index_of n, None) (keyed_from index_of (n + 1) places) all),
+      sum_by-cons (λ (o : Option (Index RuntimeDataSpace)). cond (is_some o) 1 0) None places,
+    )
+passive-from n (Some k ∷ places) all =
+    let P : Index DataSpace × Option (Index RuntimeDataSpace) → Type 0 = λ p. length (passive_lines p.0 p.1) ≤ 128 in
+    let one : length (passive_lines (index_of n) (Some k)) ≤ 128 = All-head P (index_of n, Some k) (keyed_from index_of (n + 1) places) all in
+    omega (
+      arith,
+      one,
+      length-append (passive_lines (index_of n) (Some k)) (flat_map (λ (p : Index DataSpace × Option (Index RuntimeDataSpace)). passive_lines p.0 p.1) (keyed_from index_of (n + 1) places)),
+      passive-from (n + 1) places (All-tail P (index_of n, Some k) (keyed_from index_of (n + 1) places) all),
+      sum_by-cons (λ (o : Option (Index RuntimeDataSpace)). cond (is_some o) 1 0) (Some k) places,
+    )
+
 pub passive-data-lines-short : (places : List (Option (Index RuntimeDataSpace)))
-    → All (λ (p : Index DataSpace × Option (Index RuntimeDataSpace)). length (passive_lines p.0 p.1) ≤ 128) (keyed index_of places) → length (keyed_lines passive_lines places) ≤ 128 * length places
-passive-data-lines-short places all = keyed-each passive_lines 128 places all
+    → All (λ (p : Index DataSpace × Option (Index RuntimeDataSpace)). length (passive_lines p.0 p.1) ≤ 128) (keyed index_of places)
+    → length (keyed_lines passive_lines places) ≤ 128 * count_by is_some places
+passive-data-lines-short places all = passive-from 0 places all
 
 pub alignment-short : (align : Option ℕ) → IfSome align (λ n. n < 2 ^ 64) → length (alignment_lines align) ≤ 128
 alignment-short None h = omega arith

@@ -1,5 +1,5 @@
 -- How many bytes the text of a plan has at most, by what it lists.
-use Rattle.std.specs.Prelude.{ℕ, ◌+◌, ◌*◌, ◌≤◌, List, [], length, sum_by, slice_get, unwrap_or, Option, Some, None}
+use Rattle.std.specs.Prelude.{ℕ, ◌+◌, ◌*◌, ◌≤◌, List, [], length, sum_by, count_by, is_some, slice_get, unwrap_or, Option, Some, None}
 use Rattle.entity_map.specs.Pool.{atom_number}
 use Rattle.entity_map.specs.declared.pool.Atom.{Atom}
 use Rattle.wasm_index.specs.declared.index.Index.{Index}
@@ -78,14 +78,15 @@ segments_in (init.Processed segments) = segments.items
 abbrev pub single_lines : ℕ
 single_lines = 28
 
--- the lines: one for each thing that a plan lists, and for a function two, if it escapes and has hints
+-- the lines: one for each thing that a plan lists, and for a function two, if it escapes and has
+-- hints; of data segments only those that are planned or are passive
 abbrev pub lines_of : Plan → ℕ
 lines_of plan = let t = plan.translation in let m = t.module in
     single_lines + length plan.types.types + length plan.types.groups + length plan.layouts
     + length m.types + length m.initializers.items + length m.exports.entries + 2 * length m.functions + length t.exported_signatures.items
     + length t.debuginfo.name_section.func_names.entries + length m.global_initializers.items + length t.global_initializers.items
     + length t.table_initialization.initial_values + length m.table_initialization + length t.table_initialization.segments.items + length m.passive_elements
-    + length (images_in m.memory_initialization) + length (segments_in t.memory_init) + length t.runtime_data_map.items + length m.runtime_data
+    + length (images_in m.memory_initialization) + length (segments_in t.memory_init) + count_by is_some t.runtime_data_map.items + length m.runtime_data
 
 -- what stands in these lines: parts of types, operators of expressions, and fields of layouts
 abbrev pub parts_in : Plan → ℕ

@@ -1,6 +1,6 @@
 //! How many bytes the lines of memories and layouts have.
 
-ghost use Rattle.std.specs.Prelude.{◌<◌, ◌≤◌, ◌+◌, ◌*◌, ◌^◌, ◌∷◌, [], All, IfSome, Option, length, sum_by, codes};
+ghost use Rattle.std.specs.Prelude.{◌<◌, ◌≤◌, ◌+◌, ◌*◌, ◌^◌, ◌∷◌, [], All, IfSome, Option, length, sum_by, count_by, is_some, codes};
 ghost use Rattle.std.specs.List.{flat_map};
 ghost use Rattle.entity_map.specs.Keyed.{keyed};
 ghost use Rattle.wasm_index.specs.declared.index.Index.{Index};
@@ -145,7 +145,7 @@ fn each_passive(data: &SecondaryMap<DataIndex, Option<RuntimeDataIndex>>)
 
 /// The passive data segments.
 pub(crate) fn passive_data(data: &SecondaryMap<DataIndex, Option<RuntimeDataIndex>>)
-    ensures { length (keyed_lines passive_lines data.now.items) ≤ 128 * length data.now.items }
+    ensures { length (keyed_lines passive_lines data.now.items) ≤ 128 * count_by is_some data.now.items }
 {
     each_passive(data);
 }

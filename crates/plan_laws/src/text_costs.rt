@@ -1,6 +1,6 @@
 //! How long the text of a plan is at most. Each function is the proof of its clauses.
 
-ghost use Rattle.std.specs.Prelude.{◌≤◌, ◌+◌, ◌*◌, length, sum_by};
+ghost use Rattle.std.specs.Prelude.{◌≤◌, ◌+◌, ◌*◌, length, sum_by, count_by, is_some};
 ghost use Rattle.plan_text.specs.PlanText.{entities_text, names_text, tables_text, memories_text, sizes_text};
 ghost use Rattle.plan_laws.specs.TextCosts.{
   name_bytes,
@@ -73,7 +73,7 @@ fn tables(t: &ModuleTranslation<'_>)
 
 fn memories(t: &ModuleTranslation<'_>)
     ensures { length (memories_text t.now) ≤ 128 * (2 + length (images_in t.now.module.memory_initialization)
-        + length (segments_in t.now.memory_init) + length t.now.runtime_data_map.items + length t.now.module.runtime_data)
+        + length (segments_in t.now.memory_init) + count_by is_some t.now.runtime_data_map.items + length t.now.module.runtime_data)
         + 48 * sum_by (λ s. place_operators s.1) (segments_in t.now.memory_init) }
 {
     alignment(t.data_align);
