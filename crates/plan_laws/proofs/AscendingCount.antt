@@ -36,9 +36,9 @@ without-has n j [] other (i, lt, is) = absurd (omega (arith, lt))
 without-has n j (k ∷ ks) other has = elim (cases_eq n k) [
   | inl e ↦ rw (without-head n k ks e) (behind-head j k ks has (λ f. other (f ∙ sym e)))
   | inr ne ↦ rw (without-tail n k ks ne) (elim (cases_eq j k) [
-      | inl f ↦ in-front j k (without n ks) f
-      | inr nf ↦ one-before j k (without n ks) (without-has n j ks other (behind-head j k ks has nf))
-    ])
+    | inl f ↦ in-front j k (without n ks) f
+    | inr nf ↦ one-before j k (without n ks) (without-has n j ks other (behind-head j k ks has nf))
+  ])
 ]
 
 -- each number is below the next

@@ -33,11 +33,11 @@ behind-few locals before p =
 after-few : (locals : Bool) (before ps : List Payload) → names_bytes (names_after locals before ps) ≤ sum_by custom_bytes ps
 after-few locals before [] = omega arith
 after-few locals before (p ∷ ps) = omega (
-    arith,
-    behind-few locals before p,
-    after-few locals (before ++ p ∷ []) ps,
-    joined-few (names_behind locals before p) (names_after locals (before ++ p ∷ []) ps),
-    sum_by-cons custom_bytes p ps,
+  arith,
+  behind-few locals before p,
+  after-few locals (before ++ p ∷ []) ps,
+  joined-few (names_behind locals before p) (names_after locals (before ++ p ∷ []) ps),
+  sum_by-cons custom_bytes p ps,
 )
 
 pub module-names-few : (locals : Bool) (m : plain.Module) → names_bytes (module_names locals m) ≤ sum_by custom_bytes m

@@ -47,9 +47,9 @@ without-at n k [] other = refl
 without-at n k (x ∷ xs) other = elim (cases_eq n x.0) [
   | inl e ↦ ap (at k) (without-head n x xs e) ∙ sym (at-tail k x xs (λ f. other (f ∙ sym e)))
   | inr ne ↦ ap (at k) (without-tail n x xs ne) ∙ elim (cases_eq k x.0) [
-      | inl f ↦ at-head k x (without n xs) f ∙ sym (at-head k x xs f)
-      | inr nf ↦ at-tail k x (without n xs) nf ∙ without-at n k xs other ∙ sym (at-tail k x xs nf)
-    ]
+    | inl f ↦ at-head k x (without n xs) f ∙ sym (at-head k x xs f)
+    | inr nf ↦ at-tail k x (without n xs) nf ∙ without-at n k xs other ∙ sym (at-tail k x xs nf)
+  ]
 ]
 
 -- below all keys nothing is found

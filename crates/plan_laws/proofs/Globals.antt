@@ -76,7 +76,7 @@ module _ {K X V : Type 0} (number : K → ℕ) (see : X → V) where
   by-test true x o = refl
   by-test false x o = refl
 
-  found-at : (n : ℕ) (es : List (K × X)) → lookup (λ k. nat_eq n k) (map (λ (e : K × X). (number e.0, see e.1)) es) ≡ option_map see (lookup (λ key. nat_eq n (number key)) es)
+  pub found-at : (n : ℕ) (es : List (K × X)) → lookup (λ k. nat_eq n k) (map (λ (e : K × X). (number e.0, see e.1)) es) ≡ option_map see (lookup (λ key. nat_eq n (number key)) es)
   found-at n [] = refl
   found-at n (e ∷ es) = ap (cond (nat_eq n (number e.0)) (Some (see e.1))) (found-at n es) ∙ by-test (nat_eq n (number e.0)) e.1 (lookup (λ key. nat_eq n (number key)) es)
 

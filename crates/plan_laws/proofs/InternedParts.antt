@@ -39,11 +39,11 @@ module _ {H R H' R' : Type 0} (h : H → H') (f : R → R') where
   pub group-parts : (g : Group H R) → sum_by member_parts (map_group h f g) ≡ sum_by member_parts g
   group-parts [] = refl
   group-parts (t ∷ ts) = omega (
-      arith,
-      parts-map t.composite.inner,
-      group-parts ts,
-      sum_by-cons member_parts t ts,
-      sum_by-cons member_parts (map_sub_type h f t) (map_group h f ts),
+    arith,
+    parts-map t.composite.inner,
+    group-parts ts,
+    sum_by-cons member_parts t ts,
+    sum_by-cons member_parts (map_sub_type h f t) (map_group h f ts),
   )
 
 -- ---- weights of interned types

@@ -20,6 +20,13 @@ pub mod MemoryCounts
 pub mod TableCounts
 pub mod PlanTypes
 pub mod AscendingCount
+pub mod ListedShares
+pub mod InternedCount
+pub mod EntryKinds
+pub mod PlanLists
+pub mod PlanOperators
+pub mod PlanNames
+pub mod TextBounds
 pub mod Text
 pub mod Stops
 pub mod Refusals

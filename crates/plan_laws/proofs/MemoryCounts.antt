@@ -99,7 +99,7 @@ kind-below (Active memory offset) bytes = omega arith
 
 pub active-operators : (m : Module) → sum_by (λ (s : ActiveSegment). length s.offset) (held_segments m) ≤ sum_by segment_operators (segments m)
 active-operators m = omega (
-    arith,
-    held-operators (active_segments m),
-    sum-kept (λ (s : Segment). active_of_kind s.kind s.bytes) active_operators segment_operators (λ s. kind-below s.kind s.bytes) (segments m),
+  arith,
+  held-operators (active_segments m),
+  sum-kept (λ (s : Segment). active_of_kind s.kind s.bytes) active_operators segment_operators (λ s. kind-below s.kind s.bytes) (segments m),
 )

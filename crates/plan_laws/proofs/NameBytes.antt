@@ -112,9 +112,9 @@ pub joined-few : (a b : NameLists) → names_bytes (joined a b) ≤ names_bytes 
 joined-few a b =
     let title = by a.module_name b.module_name in
     omega (arith, title, sum_by-append entry_bytes a.functions b.functions) where
-  by : (x y : Option (List ℕ)) → title_bytes (option_or y x) ≤ title_bytes x + title_bytes y
-  by x (Some text) = omega arith
-  by x None = omega arith
+      by : (x y : Option (List ℕ)) → title_bytes (option_or y x) ≤ title_bytes x + title_bytes y
+      by x (Some text) = omega arith
+      by x None = omega arith
 
 title-few : (contents : List ℕ) → names_bytes (module_named (whole name_at contents)).0 ≤ length contents
 unfolding whole
@@ -163,13 +163,13 @@ module _ (locals : Bool) where
         → names_bytes (subsection_then locals r (subsections_before locals n)) ≤ length bytes
     by (Ok x) short more =
         go (subsection locals x.0.0 x.0.1).1 (subsection-few x.0.0 x.0.1) (short x.0.0 x.0.1 x.1 refl) (more x.1) where
-      go : (t : Bool) → names_bytes (subsection locals x.0.0 x.0.1).0 ≤ length x.0.1 → length x.0.1 + length x.1 ≤ length bytes
-          → names_bytes (subsections_before locals n x.1) ≤ length x.1
-          → names_bytes (go_on_names (subsection locals x.0.0 x.0.1).0 t (subsections_before locals n x.1)) ≤ length bytes
-      go true one both later =
-          let j = joined-few (subsection locals x.0.0 x.0.1).0 (subsections_before locals n x.1) in
-          omega (arith, one, both, later, j)
-      go false one both later = omega (arith, one, both)
+          go : (t : Bool) → names_bytes (subsection locals x.0.0 x.0.1).0 ≤ length x.0.1 → length x.0.1 + length x.1 ≤ length bytes
+              → names_bytes (subsections_before locals n x.1) ≤ length x.1
+              → names_bytes (go_on_names (subsection locals x.0.0 x.0.1).0 t (subsections_before locals n x.1)) ≤ length bytes
+          go true one both later =
+              let j = joined-few (subsection locals x.0.0 x.0.1).0 (subsections_before locals n x.1) in
+              omega (arith, one, both, later, j)
+          go false one both later = omega (arith, one, both)
     by (Err fault) short more = omega arith
 
   pub section-few : (contents : List ℕ) → names_bytes (names_of_section locals contents) ≤ length contents

@@ -54,11 +54,11 @@ module _ (header : ℕ) where
   inner-weighs : (c : WasmCompositeInnerType) → parts_of c + object_fields (gc_layout_of header c) ≡ weight (inner_of c)
   inner-weighs (inner.Array t) = refl
   inner-weighs (inner.Func t) = omega (
-      arith,
-      length-map t.params value_of,
-      length-map (map value_of t.params) (map_value (named interned_number)),
-      length-map t.results value_of,
-      length-map (map value_of t.results) (map_value (named interned_number)),
+    arith,
+    length-map t.params value_of,
+    length-map (map value_of t.params) (map_value (named interned_number)),
+    length-map t.results value_of,
+    length-map (map value_of t.results) (map_value (named interned_number)),
   )
   inner-weighs (inner.Struct t) = omega (arith, fields-long header t, length-map t field_of, length-map (map field_of t) (map_field (named interned_number)))
   inner-weighs (inner.Cont t) = refl
@@ -68,12 +68,12 @@ module _ (header : ℕ) where
   each-weighs : (ts : List WasmSubType) → sum_by type_parts ts + sum_by type_fields ts ≡ sum_by type_weight (map interned_of ts)
   each-weighs [] = refl
   each-weighs (t ∷ ts) = omega (
-      arith,
-      inner-weighs t.composite_type.inner,
-      each-weighs ts,
-      sum_by-cons type_parts t ts,
-      sum_by-cons type_fields t ts,
-      sum_by-cons type_weight (interned_of t) (map interned_of ts),
+    arith,
+    inner-weighs t.composite_type.inner,
+    each-weighs ts,
+    sum_by-cons type_parts t ts,
+    sum_by-cons type_fields t ts,
+    sum_by-cons type_weight (interned_of t) (map interned_of ts),
   )
 
   pub types-weigh : (ts : List WasmSubType) (layouts : List (Option GcLayout))
@@ -102,12 +102,12 @@ members-same (t ∷ ts) = omega (arith, composite-same t.composite.inner, member
 groups-same : (gs : List (Group UnpackedIndex UnpackedIndex)) → sum_by member_parts (joined (map placed gs)) ≡ sum_by contents.member_parts (flat_map (λ g. g) gs)
 groups-same [] = refl
 groups-same (g ∷ gs) = omega (
-    arith,
-    group-parts place_of place_of g,
-    members-same g,
-    groups-same gs,
-    sum_by-append member_parts (placed g) (joined (map placed gs)),
-    sum_by-append contents.member_parts g (flat_map (λ (h : Group UnpackedIndex UnpackedIndex). h) gs),
+  arith,
+  group-parts place_of place_of g,
+  members-same g,
+  groups-same gs,
+  sum_by-append member_parts (placed g) (joined (map placed gs)),
+  sum_by-append contents.member_parts g (flat_map (λ (h : Group UnpackedIndex UnpackedIndex). h) gs),
 )
 
 pub module-parts : (m : plain.Module) → sum_by member_parts (joined (placed_groups m)) ≡ sum_by contents.member_parts (plain.types m)

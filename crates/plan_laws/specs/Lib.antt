@@ -5,3 +5,4 @@ pub mod Runs
 pub mod Records
 pub mod TextCosts
 pub mod Widths
+pub mod TextBounds

@@ -1,12 +1,29 @@
 //! Worked examples of the definitions: each clause computes.
 
-ghost use Rattle.std.specs.Prelude.{◌≡◌, [], ◌∷◌, Some, None, pos, codes};
+ghost use Rattle.std.specs.Prelude.{◌≡◌, ◌≤◌, ◌+◌, ◌*◌, [], ◌∷◌, Some, None, length, pos, codes};
 ghost use Rattle.wasm_index.specs.Index.{index_of};
 ghost use Rattle.wasm_types.specs.declared.entity.EntityIndex.TheVariants as entity;
-ghost use Rattle.plan_laws.specs.TextCosts.{parts_of, value_operators, place_operators, layout_fields, name_bytes, import_bytes, module_name_bytes};
+ghost use Rattle.rule_spec.specs.WorkedKept.{overlap_bytes};
+ghost use Rattle.plan_text.specs.PlanText.{text_of_plan};
+ghost use Rattle.translate.specs.Options.{Options};
+ghost use Rattle.translate.specs.Planned.{IsPlanned};
+ghost use Rattle.plan_laws.specs.TextBounds.{most_lines, most_parts, most_name_bytes};
+ghost use Rattle.plan_laws.specs.TextCosts.{
+  parts_of,
+  value_operators,
+  place_operators,
+  layout_fields,
+  name_bytes,
+  import_bytes,
+  module_name_bytes,
+  lines_of,
+  cells_in,
+};
 
+use crate::text_bounds::text_bound_law;
 use gc_layout::{GcArrayLayout, GcLayout};
 use init_plan::MemorySegmentOffset;
+use plan::Plan;
 use wasm_convert::ConstOp;
 use wasm_module::{Initializer, TableInitialValue};
 use wasm_types::{WasmCompositeInnerType, WasmValType};
@@ -22,3 +39,15 @@ pub fn worked_text_costs()
     ensures known_place { place_operators (MemorySegmentOffset.Static 1048576) ≡ 0 }
     ensures null_table { value_operators TableInitialValue.Null ≡ 0 }
 {}
+
+/// The bounds of an empty module, which is a header of eight bytes, and of the thirty bytes of two
+/// overlapping segments.
+pub fn worked_text_bounds(plan: &Plan<'_>)
+    ensures header_lines { most_lines 8 ≡ 84 }
+    ensures header_parts { most_parts 8 ≡ 48 }
+    ensures header_names { most_name_bytes 8 ≡ 8 }
+    ensures lines { (o : Options) → IsPlanned o overlap_bytes plan.now → lines_of plan.now ≤ 238 }
+    ensures text { (o : Options) → IsPlanned o overlap_bytes plan.now → length (text_of_plan plan.now) ≤ 30464 + 11 * cells_in plan.now }
+{
+    text_bound_law(plan);
+}
