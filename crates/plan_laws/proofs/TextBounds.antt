@@ -5,10 +5,8 @@ use Rattle.std.specs.Option.{option_map}
 use Rattle.std.proofs.lemmas.List.{length-map}
 use Rattle.wasm_spec.specs.Module as plain
 use Rattle.type_spec.specs.Interned.{Built}
-use Rattle.type_spec.specs.Taken.{SameLists}
 use Rattle.form_types.specs.Placed.{placed_groups}
 use Rattle.replay_spec.specs.Tables.{most_cells}
-use Rattle.module_types.specs.Held.{built_of}
 use Rattle.module_types.specs.Views.{interned_of, span_of}
 use Rattle.module_types.proofs.GroupMembers.{few-groups}
 use Rattle.module_types.proofs.NamedLists.{well-named}
@@ -21,7 +19,7 @@ use Rattle.module_environ.specs.Types.{interned_list}
 use Rattle.plan.specs.declared.plan.Plan.{Plan}
 use Rattle.translate.specs.Initialised.{IsInitialised}
 use Rattle.translate.specs.Options.{Options, header_size, startup_by, runs}
-use Rattle.translate.specs.Planned.{IsPlanned, nothing_met}
+use Rattle.translate.specs.Planned.{IsPlanned, HoldsTypes}
 use Rattle.translate.proofs.Costs.{costs}
 use Rattle.plan_laws.specs.Kept.{IsKept}
 use Rattle.plan_laws.specs.TextBounds.{TextIsLinear, byte_lines, byte_parts}
@@ -52,7 +50,7 @@ module _ (o : Options) (bytes : List ℕ) (plan : Plan) (kept : IsKept plan) (is
   abbrev built : Built
   built = interned_list m startup
 
-  abbrev same : SameLists (built_of plan.types nothing_met) built
+  abbrev same : HoldsTypes plan.types built
   same = is.planned.types
 
   -- ---- types
