@@ -2,7 +2,7 @@
 use Rattle.std.proofs.Common.{◌≡◌, ℕ, zero, suc, ◌+◌, ◌-◌, ◌<◌, ◌≤◌, List, [], ◌∷◌, ◌++◌, length, take, drop, Option, Some, None, Err, true, ltb, refl, sym, ap, subst, ◌∙◌, arith, inl, inr}
 use Rattle.std.specs.Prelude.{◌≢◌, IfSome, nat_eq, slice_get}
 use Rattle.std.specs.List.{starts_with}
-use Rattle.std.proofs.lemmas.Bool.{cases_Bool, ltb-true}
+use Rattle.std.proofs.lemmas.Bool.{cases_Bool, ltb-true, ltb-false}
 use Rattle.std.proofs.lemmas.Bool.Decides.{Decides-eqb}
 use Rattle.std.proofs.lemmas.Slice.Eq.{starts_is}
 use Rattle.std.proofs.lemmas.List.{length-append, length-take, drop-drop, length-drop, nil_from_length, take_all}
@@ -12,7 +12,7 @@ use Rattle.form_reader.specs.Reading.{Fault as ReadFault}
 use Rattle.form_reader.specs.SectionRows.{section}
 use Rattle.refusal_place.specs.declared.place.Place.{Place}
 use Rattle.refusal_place.specs.Found.{IsOther, IsPassed, IsDecidedBy, place_in_header}
-use Rattle.refusal_place.specs.Places.{AreAModule, Decides, IsPlaceOf, IsUnread, IsWrong, ComesTo}
+use Rattle.refusal_place.specs.Places.{AreAModule, Decides, IsPlaceOf, IsOpenWhereItEnds, IsUnread, IsWrong, ComesTo}
 use Rattle.refusal_place.proofs.Passing.{IsReadTo, reads_header, reads_more, all_read, no_module, decides, is_unread}
 
 -- ---- the header
@@ -50,6 +50,12 @@ header_place bytes offset o = record {
   place = inl (refl, record { same = o.same; within = o.within; other = o.other; no_section = (refl, refl, refl) });
   within = o.within;
 }
+
+pub header_open : (bytes : List ℕ) (offset : ℕ) → offset ≤ length bytes → IsOpenWhereItEnds (length bytes) (place_in_header bytes offset)
+header_open bytes offset within = elim (cases_Bool (ltb offset (length bytes))) [
+  | inl t ↦ rw t ((λ e. absurd cc), λ ends. absurd (omega (arith, ends, ltb-true offset (length bytes) t)))
+  | inr t ↦ rw t ((λ e. omega (arith, within, ltb-false offset (length bytes) t)), λ ends. refl)
+]
 
 -- the bytes from an offset on
 abbrev pub bytes_from : List ℕ → ℕ → List ℕ
@@ -114,6 +120,9 @@ module _ (bytes : List ℕ) (start next : ℕ) (within : start ≤ length bytes)
       });
       within = omega (arith, left, byte);
     }
+
+    pub is_open : (p : Place) → IsOpenWhereItEnds (start + length (bytes_from bytes start)) p → IsOpenWhereItEnds (length bytes) p
+    is_open p o = let P : ℕ → Type 0 = λ n. IsOpenWhereItEnds n p in subst P (omega (arith, left, some)) o
 
     pub is_decided : (o : Option ℕ) → IfSome o (IsDecidedBy start next (bytes_from bytes start)) → IfSome o (Decides bytes)
     is_decided (Some end) d = decides bytes start next (bytes_from bytes start) end r.comes more_left d

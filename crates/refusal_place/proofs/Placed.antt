@@ -10,7 +10,7 @@ use Rattle.refusal_place.specs.declared.kind.SectionKind.{SectionKind}
 use Rattle.refusal_place.specs.declared.place.Fault.TheVariants as fault
 use Rattle.refusal_place.specs.declared.place.Place.{Place}
 use Rattle.refusal_place.specs.Kinds.{id_of, kind_of}
-use Rattle.refusal_place.specs.Places.{IsMisplaced, IsWrong}
+use Rattle.refusal_place.specs.Places.{IsMisplaced, IsOpenWhereItEnds, IsWrong}
 use Rattle.refusal_place.specs.Found.{after_id_at, misplaced, IsDecidedAfter, IsDecidedBy, IsAfterId, place_of_id}
 use Rattle.refusal_place.proofs.AfterId.{read_after_id, misplaced_unread, unknown_unread, id_decides, after_decides, kind_id}
 
@@ -86,3 +86,8 @@ module _ (start next : ℕ) (rest : List ℕ) (some : 1 ≤ length rest) where
       after_decided r h = if_ok r _ _ (λ p a. if_some p.decided (IsDecidedAfter start (id_of k) (after_in rest)) _ (λ end d.
           let P : List ℕ → Type 0 = λ l. IsDecidedBy start next l end in
           subst P (sym kind_front) (after_decides start next k (after_in rest) end may_follow d)) a.decided) h
+
+      pub after_open : {E : Type 0} (r : Result Place E) → IfOk r (IsAfterId start k (after_in rest))
+          → IfOk r (IsOpenWhereItEnds (start + length rest))
+      after_open r h = if_ok r _ _ (λ p a.
+          let P : ℕ → Type 0 = λ n. IsOpenWhereItEnds n p in subst P (omega (arith, ap length kind_front)) a.early) h

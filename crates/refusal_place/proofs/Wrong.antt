@@ -1,7 +1,7 @@
 -- What is wrong after the id of a section, as a place says it.
 use Rattle.std.proofs.Common.{◌≡◌, ℕ, ◌+◌, ◌-◌, ◌<◌, ◌≤◌, List, ◌∷◌, ◌++◌, length, take, drop, Option, Some, None, Ok, Err, cond, leb, refl, sym, ap, subst, ◌∙◌, arith, inl, inr}
 use Rattle.std.specs.Prelude.{IfSome}
-use Rattle.std.proofs.lemmas.Bool.{cases_Bool, leb-true}
+use Rattle.std.proofs.lemmas.Bool.{cases_Bool, leb-true, leb-false}
 use Rattle.std.proofs.lemmas.List.{length-append, length-take, take-append-drop}
 use Rattle.wasm_spec.specs.declared.operators.What.{What}
 use Rattle.wasm_spec.specs.Parts.{Part}
@@ -15,7 +15,7 @@ use Rattle.refusal_place.specs.declared.place.Fault.{Fault}
 use Rattle.refusal_place.specs.declared.place.Fault.TheVariants as fault
 use Rattle.refusal_place.specs.declared.place.Place.{Place}
 use Rattle.refusal_place.specs.Kinds.{id_of, OfEntries}
-use Rattle.refusal_place.specs.Places.{IsInContents, HasWrongContents, IsWrong, Lists, IsFirstUnspelled, IsFirstStopped, HasRemainder}
+use Rattle.refusal_place.specs.Places.{IsInContents, HasWrongContents, IsOpenWhereItEnds, EndsInside, IsWrong, Lists, IsFirstUnspelled, IsFirstStopped, HasRemainder}
 use Rattle.refusal_place.specs.Found.{after_id_at, AreUnread, IsDecidedAfter, IsAfterId, place_of_size, place_of_cut}
 use Rattle.refusal_place.proofs.AfterId.{judged, no_number, size_decides, contents_decide}
 
@@ -26,6 +26,12 @@ size_decided : (start : ℕ) (k : SectionKind) (sized : List ℕ) (f : ReadFault
 size_decided start k sized f e = elim (cases_Bool (leb 5 (length sized))) [
   | inl t ↦ rw t (size_decides start k sized f (leb-true _ _ t) e)
   | inr t ↦ rw t tt
+]
+
+size_open : (start : ℕ) (k : SectionKind) (sized : List ℕ) → IsOpenWhereItEnds (start + (1 + length sized)) (place_of_size k sized start)
+size_open start k sized = elim (cases_Bool (leb 5 (length sized))) [
+  | inl t ↦ rw t ((λ e. absurd cc), λ l. absurd (omega (arith, l, leb-true _ _ t)))
+  | inr t ↦ rw t ((λ e. omega (arith, leb-false _ _ t)), λ l. refl)
 ]
 
 pub size_is_wrong : (start : ℕ) (k : SectionKind) (sized : List ℕ) (f : ReadFault) → unsigned_at 32 sized ≡ Err f
@@ -42,6 +48,7 @@ size_is_wrong start k sized f e = record {
   };
   within = omega arith;
   decided = size_decided start k sized f e;
+  early = size_open start k sized;
 }
 
 -- ---- where the fault is in the contents
@@ -162,6 +169,21 @@ wrong_contents fault.SectionOrder k contents entry offset next bytes p is has = 
 wrong_contents fault.SectionSize k contents entry offset next bytes p is has = absurd is
 wrong_contents (fault.SectionEnd end) k contents entry offset next bytes p is has = absurd is
 
+-- no fault of contents is an input that ends too early
+contents_open : (f : Fault) (k : SectionKind) (contents : List ℕ) (entry : Option ℕ) (offset size byte : ℕ)
+    → IsInContents f k contents entry offset → EndsInside f size byte → ⊥
+contents_open fault.Header k contents entry offset size byte is ends = absurd is
+contents_open fault.SectionSize k contents entry offset size byte is ends = absurd is
+contents_open (fault.SectionEnd end) k contents entry offset size byte is ends = absurd is
+contents_open fault.Count k contents entry offset size byte is ends = ends
+contents_open fault.Entry k contents entry offset size byte is ends = ends
+contents_open (fault.Unsupported w) k contents entry offset size byte is ends = ends
+contents_open fault.Remainder k contents entry offset size byte is ends = ends
+contents_open fault.Number k contents entry offset size byte is ends = ends
+contents_open fault.Name k contents entry offset size byte is ends = ends
+contents_open (fault.UnknownSection id) k contents entry offset size byte is ends = ends
+contents_open fault.SectionOrder k contents entry offset size byte is ends = ends
+
 -- ---- what follows the size
 
 module _ (start : ℕ) (k : SectionKind) (sized : List ℕ) (size : ℕ) (rest : List ℕ) (read : unsigned_at 32 sized ≡ Ok (size, rest)) where
@@ -190,6 +212,7 @@ module _ (start : ℕ) (k : SectionKind) (sized : List ℕ) (size : ℕ) (rest :
     };
     within = omega arith;
     decided = tt;
+    early = ((λ e. omega (arith, size_length, short)), λ l. refl);
   }
 
   -- ---- the contents
@@ -242,4 +265,5 @@ module _ (start : ℕ) (k : SectionKind) (sized : List ℕ) (size : ℕ) (rest :
       });
       within = omega (arith, size_length, contents_long, offset_within f k (take size rest) entry offset is);
       decided = contents_decided unread;
+      early = ((λ e. absurd cc), λ ends. absurd (contents_open f k (take size rest) entry offset _ _ is ends));
     }

@@ -12,7 +12,7 @@ use Rattle.refusal_place.specs.declared.place.Fault.{Fault}
 use Rattle.refusal_place.specs.declared.place.Fault.TheVariants as fault
 use Rattle.refusal_place.specs.declared.place.Place.{Place}
 use Rattle.refusal_place.specs.Kinds.{id_of}
-use Rattle.refusal_place.specs.Places.{IsWrong}
+use Rattle.refusal_place.specs.Places.{IsOpenWhereItEnds, IsWrong}
 
 -- the bytes before are those of the header, and this one is another, or is not there
 pub record IsOther (bytes : List ℕ) (offset : ℕ) : Type 0 where
@@ -170,3 +170,4 @@ pub record IsAfterId (start : ℕ) (k : SectionKind) (sized : List ℕ) (p : Pla
   pub wrong : (next : ℕ) → IsWrong p.fault next (id_of k ∷ sized) p
   pub within : p.byte ≤ start + (1 + length sized)
   pub decided : IfSome p.decided (IsDecidedAfter start (id_of k) sized)
+  pub early : IsOpenWhereItEnds (start + (1 + length sized)) p

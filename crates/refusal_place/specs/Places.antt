@@ -1,5 +1,5 @@
 -- Where and why bytes are refused, by the grammar alone (core specification, 5.5).
-use Rattle.std.specs.Prelude.{◌≡◌, ◌≢◌, ◌⊎◌, ℕ, ◌+◌, ◌<◌, ◌≤◌, List, ◌∷◌, ◌++◌, length, take, slice_get, Option, Some, None}
+use Rattle.std.specs.Prelude.{◌≡◌, ◌≢◌, ◌⊎◌, ◌↔◌, ℕ, ◌+◌, ◌<◌, ◌≤◌, List, ◌∷◌, ◌++◌, length, take, slice_get, Option, Some, None}
 use Rattle.wasm_spec.specs.declared.operators.What.{What}
 use Rattle.wasm_spec.specs.Module.{Module}
 use Rattle.wasm_spec.specs.Parts.{Part, unsigned, elements}
@@ -83,6 +83,20 @@ IsInContents fault.Number kind.DataCount contents None offset = ((n : ℕ) → �
 IsInContents fault.Name kind.Custom contents None offset = IsUnspelled name contents × (offset ≡ 0)
 IsInContents (fault.Unsupported w) kind.Custom contents None offset = custom_contents.stops contents w × (offset ≡ 0)
 IsInContents _ _ _ _ _ = ⊥
+
+-- ---- inputs that end too early
+
+-- an input of so many bytes ends inside the header, inside the five bytes that a size may have, or
+-- inside a section
+abbrev pub EndsInside : Fault → (size byte : ℕ) → Type 0
+EndsInside fault.Header size byte = byte ≡ size
+EndsInside fault.SectionSize size byte = size < byte + 5
+EndsInside (fault.SectionEnd end) size byte = size < end
+EndsInside _ size byte = ⊥
+
+-- it is left open whether the input begins a module exactly where it ends inside one of these
+abbrev pub IsOpenWhereItEnds : ℕ → Place → Type 0
+IsOpenWhereItEnds size p = (p.decided ≡ None) ↔ EndsInside p.fault size p.byte
 
 -- ---- in a section, whose bytes from its id on are `rest`
 

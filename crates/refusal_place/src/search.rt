@@ -2,7 +2,7 @@
 
 ghost use Rattle.std.specs.Prelude.{◌≡◌, ◌≤◌, ◌<◌, ◌^◌, ◌⊎◌, None, length, IfOk, IfSome};
 ghost use Rattle.refusal_place.specs.Found.{place_in_header};
-ghost use Rattle.refusal_place.specs.Places.{AreAModule, Decides, IsPlaceOf};
+ghost use Rattle.refusal_place.specs.Places.{AreAModule, Decides, IsOpenWhereItEnds, IsPlaceOf};
 
 use crate::header::header_fault;
 use crate::place::{Fault, Place};
@@ -21,6 +21,8 @@ pub fn locate(alloc: Global, bytes: &[u8]) -> Result<Option<Place>, OutOfMemory>
     ensures refused { IfOk result (λ place. IfSome place (λ p. (length bytes.now < 2 ^ 30) × (¬ AreAModule bytes.now))) }
     // The section, the entry and the offset are those of the first that is wrong.
     ensures place { IfOk result (λ place. IfSome place (IsPlaceOf bytes.now)) }
+    // It is left open whether the input begins a module exactly where it ends too early.
+    ensures early { IfOk result (λ place. IfSome place (IsOpenWhereItEnds (length bytes.now))) }
     // No input that begins with so many of the bytes is a module.
     ensures decided { IfOk result (λ place. IfSome place (λ p. IfSome p.decided (Decides bytes.now))) }
 {

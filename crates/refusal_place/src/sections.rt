@@ -7,7 +7,7 @@ ghost use Rattle.form_reader.specs.declared.error.ReadError.TheVariants as read;
 ghost use Rattle.form_reader.specs.SectionRows.{section as section_row};
 ghost use Rattle.refusal_place.specs.Found.{IsPassed, IsDecidedBy, IsAfterId, after_id_at, misplaced, place_of_id, place_of_size, place_of_cut};
 ghost use Rattle.refusal_place.specs.Kinds.{id_of};
-ghost use Rattle.refusal_place.specs.Places.{IsWrong};
+ghost use Rattle.refusal_place.specs.Places.{IsOpenWhereItEnds, IsWrong};
 
 use crate::contents::contents_fault;
 use crate::kind::SectionKind;
@@ -67,6 +67,7 @@ pub(crate) fn section_place(
     ensures wrong { IfOk result (λ p. (p.section_start ≡ start) × IsWrong p.fault next rest.now p) }
     ensures within { IfOk result (λ p. p.byte ≤ start + length rest.now) }
     ensures decided { IfOk result (λ p. IfSome p.decided (IsDecidedBy start next rest.now)) }
+    ensures early { IfOk result (IsOpenWhereItEnds (start + length rest.now)) }
 {
     let [id, sized @ ..] = rest else {
         unreachable!()

@@ -1,5 +1,5 @@
 use Rattle.std.proofs.Common.{arith, inr}
-use Rattle.refusal_place.proofs.Located.{header_no_module, header_decided, header_place, header_is_read, header_within, one_more, ends, not_a_module, is_place, is_decided, refused_at}
+use Rattle.refusal_place.proofs.Located.{header_no_module, header_decided, header_open, header_place, header_is_read, header_within, one_more, ends, not_a_module, is_place, is_open, is_decided, refused_at}
 use Rattle.refusal_place.proofs.search.locate.Goals as goal
 
 -- ---- in the header
@@ -14,6 +14,9 @@ returns-in-Some-clause-place c = rw c.header_place.ensures (header_place c.args.
 
 pub returns-in-Some-clause-decided : goal.returns-in-Some-clause-decided
 returns-in-Some-clause-decided c = rw c.header_place.ensures (header_decided c.args.bytes.now c.in-Some.offset c.in-Some.ensures.other)
+
+pub returns-in-Some-clause-early : goal.returns-in-Some-clause-early
+returns-in-Some-clause-early c = rw c.header_place.ensures (header_open c.args.bytes.now c.in-Some.offset c.in-Some.ensures.other.within)
 
 -- ---- from section to section
 
@@ -52,6 +55,14 @@ returns-in-None-clause-decided c =
     let p = c.in_ok-section_place-in-None in
     is_decided c.args.bytes.now c.sections.start c.pass_section.new.next c.sections.invariant.within at.0 c.sections-test.true at.1.0 at.1.1
     p.field-0.decided p.ensures.decided
+
+pub returns-in-None-clause-early : goal.returns-in-None-clause-early
+returns-in-None-clause-early c =
+    let at = refused_at c.args.bytes.now c.sections.start c.sections.next c.pass_section.new.next c.sections.invariant.read
+    (rw c.in-None.is at c.in_ok-length.ensures) in
+    let p = c.in_ok-section_place-in-None in
+    is_open c.args.bytes.now c.sections.start c.pass_section.new.next c.sections.invariant.within at.0 c.sections-test.true at.1.0 at.1.1
+    p.field-0 p.ensures.early
 
 -- ---- at the end
 

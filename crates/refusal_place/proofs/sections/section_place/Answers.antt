@@ -1,5 +1,5 @@
 use Rattle.std.proofs.Common.{refl, sym, ◌∙◌}
-use Rattle.refusal_place.proofs.Placed.{unknown_decided, misplaced_decided, misplaced_wrong, after_unread, after_wrong, after_decided}
+use Rattle.refusal_place.proofs.Placed.{unknown_decided, misplaced_decided, misplaced_wrong, after_unread, after_wrong, after_decided, after_open}
 use Rattle.refusal_place.proofs.sections.section_place.Goals as goal
 
 pub returns-in_default-of_id-clause-decided : goal.returns-in_default-of_id-clause-decided
@@ -36,4 +36,9 @@ returns-clause-wrong c =
 pub returns-clause-decided : goal.returns-clause-decided
 returns-clause-decided c =
     after_decided c.args.start c.args.next c.args.rest.now c.requires.some c.in-Some.section (sym c.of_id.ensures ∙ c.in-Some.is)
+    (sym c.is_misplaced.ensures ∙ c.if-is_misplaced.false) c.sized_place.result c.sized_place.ensures
+
+pub returns-clause-early : goal.returns-clause-early
+returns-clause-early c =
+    after_open c.args.start c.args.next c.args.rest.now c.requires.some c.in-Some.section (sym c.of_id.ensures ∙ c.in-Some.is)
     (sym c.is_misplaced.ensures ∙ c.if-is_misplaced.false) c.sized_place.result c.sized_place.ensures
