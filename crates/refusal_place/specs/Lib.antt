@@ -1,7 +1,9 @@
+pub mod Contents
 pub mod Entries
 pub mod EntryFound
 pub mod Found
 pub mod Kinds
 pub mod Places
+pub mod Sought
 pub mod Texts
 pub mod Worked

@@ -7,15 +7,14 @@ ghost use Rattle.refusal_place.specs.Found.{Shortens};
 ghost use Rattle.refusal_place.specs.Kinds.{id_of};
 
 use crate::entries::{Single, pass_entry};
-use crate::header::header_fault;
 use crate::kind::SectionKind;
 use crate::numbers::read_number;
-use crate::sections::pass_section;
+use crate::seek::{contents_in_section, seek_section};
 use entity_map::OutOfMemory;
 use form_data::{
     DataSegment, Element, Export, FunctionBody, GlobalDef, Import, RecGroup, TableDef,
 };
-use form_reader::{Cursor, DefinedFunction, DefinedTag, Entry, HEADER, MAX_MODULE_SIZE};
+use form_reader::{Cursor, DefinedFunction, DefinedTag, Entry};
 use std::alloc::Global;
 use wasm_spec::MemoryType;
 
@@ -33,27 +32,13 @@ pub fn entry_place(
 ) -> Result<Option<u32>, OutOfMemory>
     ensures { IfOk result (IsEntryPlace bytes.now section entry) }
 {
-    if bytes.len() >= MAX_MODULE_SIZE {
+    let Some(start) = seek_section(alloc, bytes, section)? else {
         return Ok(None);
+    };
+    match entry_in_section(alloc, section, &bytes[start + 1..], entry)? {
+        Some(distance) => Ok(Some((start + distance) as u32)),
+        None => Ok(None),
     }
-    if let Some(_other) = header_fault(bytes) {
-        return Ok(None);
-    }
-    let mut start = HEADER.len();
-    let mut next = 0;
-    'sections: while start < bytes.len() {
-        if bytes[start] == section.id() {
-            return match entry_in_section(alloc, section, &bytes[start + 1..], entry)? {
-                Some(distance) => Ok(Some((start + distance) as u32)),
-                None => Ok(None),
-            };
-        }
-        match pass_section(alloc, &bytes[start..], start, &mut next)? {
-            Some(length) => start += length,
-            None => return Ok(None),
-        }
-    }
-    Ok(None)
 }
 
 /// How far behind the start of a section an entry of it begins; `sized` follows the id.
@@ -65,17 +50,11 @@ fn entry_in_section(
 ) -> Result<Option<usize>, OutOfMemory>
     ensures { IfOk result (IsEntryInSection section (id_of section ∷ sized.now) entry) }
 {
-    let mut cursor = Cursor { rest: sized };
-    let size = match read_number(&mut cursor)? {
-        Some(size) => size as usize,
-        None => return Ok(None),
-    };
-    if cursor.rest.len() < size {
+    let Some(found) = contents_in_section(section, sized)? else {
         return Ok(None);
-    }
-    let before = 1 + (sized.len() - cursor.rest.len());
-    match entry_in_contents(alloc, section, &cursor.rest[..size], entry)? {
-        Some(offset) => Ok(Some(before + offset)),
+    };
+    match entry_in_contents(alloc, section, found.contents, entry)? {
+        Some(offset) => Ok(Some(found.before + offset)),
         None => Ok(None),
     }
 }

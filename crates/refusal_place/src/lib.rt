@@ -12,6 +12,7 @@
 //! It takes the time of reading once more, and memory for one entry at a time.
 //!
 //! `entry_place` says where an entry begins, for entries that are read and break a rule.
+//! `contents_place` says it of sections that list no entries.
 //!
 //! Read on: `place` has the record and its sentences, `search` the call; `form_reader` reads.
 #![tactic(auto)]
@@ -25,12 +26,14 @@ mod numbers;
 mod place;
 mod search;
 mod sections;
+mod seek;
 mod worked;
 
 pub use entry::entry_place;
 pub use kind::SectionKind;
 pub use place::{Fault, Place};
 pub use search::locate;
+pub use seek::contents_place;
 pub use worked::{worked_entry, worked_place};
 
 #[cfg(test)]

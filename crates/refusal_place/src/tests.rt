@@ -1,6 +1,6 @@
 //! Each call on small inputs, with ample memory.
 
-use crate::{Fault, Place, SectionKind, entry_place, locate};
+use crate::{Fault, Place, SectionKind, contents_place, entry_place, locate};
 use std::test::Fail;
 
 /// Two memories, of which the second has flags that no memory type has.
@@ -43,5 +43,14 @@ fn entries_are_found(rt: HostRuntime) -> Result<(), Fail> {
     let alloc = rt.alloc();
     assert!(rt; entry_place(alloc, &MEMORIES, SectionKind::Memory, 1)? == Some(13));
     assert!(rt; entry_place(alloc, &MEMORIES, SectionKind::Memory, 2)?.is_none());
+    Ok(())
+}
+
+#[test]
+fn contents_are_found(rt: HostRuntime) -> Result<(), Fail> {
+    let alloc = rt.alloc();
+    assert!(rt; contents_place(alloc, &MEMORIES, SectionKind::Memory)? == Some(10));
+    assert!(rt; contents_place(alloc, &MEMORIES, SectionKind::Start)?.is_none());
+    assert!(rt; contents_place(alloc, &CUT, SectionKind::Memory)?.is_none());
     Ok(())
 }

@@ -3,4 +3,8 @@ pub mod Kept
 pub mod Breaks
 pub mod TypeFlags
 pub mod Worked
+pub mod Listed
+pub mod ImportKinds
+pub mod SectionEntries
 pub mod Refused
+pub mod BrokenAt

@@ -34,6 +34,7 @@ mod lists;
 mod numbers;
 mod references;
 mod refused;
+mod section_entries;
 mod segments;
 #[cfg(test)]
 mod tests;

@@ -1,13 +1,23 @@
 //! The first break of a rule, from the bytes of a module.
 
-ghost use Rattle.std.specs.Prelude.{◌≡◌, IfOk, IfSome};
+ghost use Rattle.std.specs.Prelude.{◌≡◌, ◌<◌, ◌^◌, length, IfOk, IfSome};
+ghost use Rattle.wasm_spec.specs.Grammar.{Spells};
+ghost use Rattle.wasm_spec.specs.Interfaces.{HasNoInterfaceTypes};
+ghost use Rattle.form_data.specs.Views.{module_of};
+ghost use Rattle.rule_breaks.specs.BrokenAt.{IsBrokenAt, IsInSection};
+ghost use Rattle.rule_breaks.specs.Listed.{IsListed};
 ghost use Rattle.rule_breaks.specs.Refused.{BreaksFirst, KeepsIfRead};
+ghost use Rattle.rule_breaks.specs.SectionEntries.{BeginsAt};
 
 use crate::forms::locate_break;
 use crate::lists::Break;
+use crate::section_entries::{SectionEntry, section_entry};
 use entity_map::OutOfMemory;
+use form_data::Form;
+use form_lists::Source;
 use form_reader::{ReadError, read_module};
 use form_rules::{CheckError, check};
+use refusal_place::{SectionKind, contents_place, entry_place};
 use rule_spec::Rule;
 use std::alloc::Global;
 
@@ -16,13 +26,21 @@ use std::alloc::Global;
 pub struct BrokenRule {
     pub rule: Rule,
     pub place: Break,
+    /// The kind of the section that has the entry. An import has it where the entry of an index
+    /// space is imported.
+    pub section: SectionKind,
+    /// The entry of that section, from 0 on: of a type the recursion group that has it. It is 0 in
+    /// start and data count sections, which have one number.
+    pub section_entry: u32,
+    /// The offset in the input at which that entry begins.
+    pub byte: u32,
 }
 
-/// The first rule that the module breaks, and the first entry that breaks it; none where the bytes
-/// are not read as a module, and where the module satisfies all rules.
+/// The first rule that the module breaks, and the first entry that breaks it, with where it begins;
+/// none where the bytes are not read as a module, and where the module satisfies all rules.
 ///
 /// # Errors
-/// `OutOfMemory` where the module or the check finds no memory.
+/// `OutOfMemory` where the module, the check or an entry finds no memory.
 pub fn locate_broken_rule(alloc: Global, bytes: &[u8]) -> Result<Option<BrokenRule>, OutOfMemory>
     ensures none { IfOk result (λ b. b ≡ None → KeepsIfRead bytes.now) }
     ensures first { IfOk result (λ b. IfSome b (BreaksFirst bytes.now)) }
@@ -38,8 +56,53 @@ pub fn locate_broken_rule(alloc: Global, bytes: &[u8]) -> Result<Option<BrokenRu
         Ok(()) => Ok(None),
         Err(CheckError::OutOfMemory) => Err(OutOfMemory),
         Err(CheckError::Invalid(rule)) => match locate_break(alloc, &form, rule)? {
-            Some(place) => Ok(Some(BrokenRule { rule, place })),
+            Some(place) => Ok(Some(broken_at(alloc, bytes, &form, rule, place)?)),
             None => unreachable!(),
         },
+    }
+}
+
+/// The broken rule, with where the entry begins.
+fn broken_at(
+    alloc: Global,
+    bytes: &[u8],
+    form: &Form<'_>,
+    rule: Rule,
+    place: Break,
+) -> Result<BrokenRule, OutOfMemory>
+    requires few { length bytes.now < 2 ^ 30 }
+    requires spelled { Spells bytes.now (module_of form.now) }
+    requires no_interface_types { HasNoInterfaceTypes (module_of form.now) }
+    requires listed { IsListed (module_of form.now) place.list place.entry }
+    ensures { IfOk result (IsBrokenAt bytes.now (module_of form.now) rule place) }
+{
+    let SectionEntry { section, entry } = section_entry(alloc, Source::Form(form), place)?;
+    let byte = section_entry_place(alloc, bytes, section, entry)?;
+    Ok(BrokenRule {
+        rule,
+        place,
+        section,
+        section_entry: entry,
+        byte,
+    })
+}
+
+/// The offset at which the entry of a section begins, of a module that has it.
+fn section_entry_place(
+    alloc: Global,
+    bytes: &[u8],
+    section: SectionKind,
+    entry: u32,
+) -> Result<u32, OutOfMemory>
+    requires { IsInSection bytes.now section entry }
+    ensures { IfOk result (BeginsAt bytes.now section entry) }
+{
+    let place = match section {
+        SectionKind::Start | SectionKind::DataCount => contents_place(alloc, bytes, section)?,
+        _ => entry_place(alloc, bytes, section, entry)?,
+    };
+    match place {
+        Some(byte) => Ok(byte),
+        None => unreachable!(),
     }
 }
