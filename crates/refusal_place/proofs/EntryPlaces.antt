@@ -9,12 +9,14 @@ use Rattle.form_reader.specs.ReadingNumbers.{unsigned_at}
 use Rattle.form_reader.specs.Agrees.{Agrees}
 use Rattle.form_reader.specs.NumberLaws.{unsigned_agrees}
 use Rattle.refusal_place.specs.declared.kind.SectionKind.{SectionKind}
+use Rattle.refusal_place.specs.declared.seek.Contents.{Contents}
 use Rattle.refusal_place.specs.declared.place.Fault.{Fault}
 use Rattle.refusal_place.specs.Kinds.{id_of, OfEntries}
 use Rattle.refusal_place.specs.Places.{HasContents}
 use Rattle.refusal_place.specs.Found.{IsEntryRead, ReadsUpTo}
 use Rattle.refusal_place.specs.Entries.{HasEntry}
 use Rattle.refusal_place.specs.EntryFound.{IsEntryFound, IsEntryIn, IsEntryInSection}
+use Rattle.refusal_place.specs.Sought.{AreContentsIn}
 use Rattle.refusal_place.proofs.ContentLaws.{lists, no_number, wrong_entries}
 use Rattle.refusal_place.proofs.EntryLaws.{unread_entry}
 use Rattle.refusal_place.proofs.Wrong.{lists_within, of_entries}
@@ -68,50 +70,24 @@ entry_within k contents entry offset is =
     of_entries k (λ A part. HasEntry part contents entry offset) (offset ≤ length contents)
     (λ A part here. lists_within part contents entry offset here.count here.rest here.lists) is
 
-module _ (k : SectionKind) (sized : List ℕ) (size : ℕ) (rest : List ℕ) (read : unsigned_at 32 sized ≡ Ok (size, rest)) where
-  abbrev number : (front : List ℕ) × (sized ≡ front ++ rest) × SpellsUnsigned 32 front size
-  number = (unsigned_agrees 32).found sized size rest read
+-- the entry is in the contents that were found
+pub entry_of : (k : SectionKind) (rest : List ℕ) (found : Contents) (entry offset : ℕ) → AreContentsIn k rest (Some found)
+    → IsEntryIn k found.contents.now entry (Some offset) → IsEntryInSection k rest entry (Some (found.before + offset))
+entry_of k rest found entry offset a is = record {
+  contents = found.contents.now;
+  before = found.before;
+  offset = offset;
+  has = a.has;
+  entry_is = is;
+  distance_is = refl;
+  within = omega (arith, a.within, entry_within k found.contents.now entry offset is);
+}
 
-  pub number_length : length sized ≡ length number.0 + length rest
-  number_length = omega (arith, ap length number.1, length-append number.0 rest)
+pub none_of : (k : SectionKind) (rest : List ℕ) (found : Contents) (entry : ℕ) → AreContentsIn k rest (Some found)
+    → IsEntryIn k found.contents.now entry None → IsEntryInSection k rest entry None
+none_of k rest found entry a none = inr (inr (found.contents.now, found.before, a.has, none))
 
-  pub short : (entry : ℕ) → length rest < size → IsEntryInSection k (id_of k ∷ sized) entry None
-  short entry l = inr (inl (record {
-    number = number.0;
-    after = rest;
-    size = size;
-    parts = ap (λ (l : List ℕ). id_of k ∷ l) number.1;
-    size_is = number.2;
-    short = l;
-  }))
-
-  module _ (fits : size ≤ length rest) where
-    contents_long : length (take size rest) ≡ size
-    contents_long = omega (arith, length-take size rest, fits)
-
-    has_contents : HasContents k (id_of k ∷ sized) (take size rest) (1 + (length sized - length rest))
-    has_contents = record {
-      number = number.0;
-      later = drop size rest;
-      parts = ap (λ (l : List ℕ). id_of k ∷ l) (number.1 ∙ ap (λ (l : List ℕ). number.0 ++ l) (sym (take-append-drop size rest)));
-      size_is = subst (SpellsUnsigned 32 number.0) (sym contents_long) number.2;
-      offset_is = omega (arith, number_length);
-    }
-
-    pub entry_of : (entry offset : ℕ) → IsEntryIn k (take size rest) entry (Some offset)
-        → IsEntryInSection k (id_of k ∷ sized) entry (Some (1 + (length sized - length rest) + offset))
-    entry_of entry offset is = record {
-      contents = take size rest;
-      before = 1 + (length sized - length rest);
-      offset = offset;
-      has = has_contents;
-      entry_is = is;
-      distance_is = refl;
-      within = omega (arith, number_length, contents_long, entry_within k (take size rest) entry offset is);
-    }
-
-    pub none_of : (entry : ℕ) → IsEntryIn k (take size rest) entry None → IsEntryInSection k (id_of k ∷ sized) entry None
-    none_of entry none = inr (inr (take size rest, 1 + (length sized - length rest), has_contents, none))
-
-pub no_size : (k : SectionKind) (sized : List ℕ) (entry : ℕ) → unsigned_at 32 sized ≡ Err Bad → IsEntryInSection k (id_of k ∷ sized) entry None
-no_size k sized entry e = inl (sized, refl, no_number sized e)
+-- no contents were found
+pub no_contents : (k : SectionKind) (rest : List ℕ) (entry : ℕ) → AreContentsIn k rest None → IsEntryInSection k rest entry None
+no_contents k rest entry (inl unspelled) = inl unspelled
+no_contents k rest entry (inr short) = inr (inl short)

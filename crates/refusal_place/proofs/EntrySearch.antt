@@ -1,6 +1,6 @@
 -- Sections one after another, up to the first of a kind.
-use Rattle.std.proofs.Common.{◌≡◌, ℕ, zero, suc, ◌+◌, ◌-◌, ◌<◌, ◌≤◌, List, [], ◌∷◌, ◌++◌, length, drop, get_or, All, Some, None, Ok, true, refl, sym, ap, subst, ◌∙◌, append_assoc, arith, inl, inr}
-use Rattle.std.specs.Prelude.{◌≢◌, nat_eq}
+use Rattle.std.proofs.Common.{◌≡◌, ℕ, zero, suc, ◌+◌, ◌-◌, ◌<◌, ◌≤◌, ◌^◌, List, [], ◌∷◌, ◌++◌, length, drop, get_or, All, Some, None, Ok, true, refl, sym, ap, subst, ◌∙◌, append_assoc, arith, inl, inr}
+use Rattle.std.specs.Prelude.{◌≢◌, ◌⊎◌, nat_eq}
 use Rattle.std.specs.List.{starts_with}
 use Rattle.std.proofs.lemmas.Bool.Decides.{Decides-eqb}
 use Rattle.std.proofs.lemmas.Slice.Eq.{starts_is}
@@ -13,9 +13,12 @@ use Rattle.form_reader.specs.SectionRows.{section}
 use Rattle.form_reader.proofs.ContentLaws.{taken_spells}
 use Rattle.refusal_place.specs.declared.kind.SectionKind.{SectionKind}
 use Rattle.refusal_place.specs.Kinds.{id_of}
-use Rattle.refusal_place.specs.Places.{ComesTo}
-use Rattle.refusal_place.specs.Entries.{IsEntryPlace}
+use Rattle.refusal_place.specs.Places.{ComesTo, IsUnread}
+use Rattle.refusal_place.specs.Contents.{IsContentsPlace, SectionHasNoContents}
+use Rattle.refusal_place.specs.Entries.{IsEntryPlace, SectionHasNoEntry}
 use Rattle.refusal_place.specs.EntryFound.{IsEntryInSection}
+use Rattle.refusal_place.specs.declared.seek.Contents.{Contents}
+use Rattle.refusal_place.specs.Sought.{AreContentsIn, IsSectionAt, IsSectionFound}
 use Rattle.refusal_place.specs.Found.{IsPassed}
 use Rattle.refusal_place.proofs.IdLaws.{id_read}
 use Rattle.refusal_place.proofs.Located.{bytes_from, from_is}
@@ -101,50 +104,26 @@ module _ (k : SectionKind) (bytes : List ℕ) (start next : ℕ) (some : start <
         some,
       )
 
-  pub found_at : (entry distance : ℕ) → get_or bytes start 0 ≡ id_of k
-      → IsEntryInSection k (id_of k ∷ bytes_from bytes (start + 1)) entry (Some distance) → IsEntryPlace bytes k entry (Some (start + distance))
-  found_at entry distance id is =
-      let same : bytes_from bytes start ≡ id_of k ∷ bytes_from bytes (start + 1) = front ∙ ap (λ (b : ℕ). b ∷ bytes_from bytes (start + 1)) id in
-      record {
-        start = start;
-        next = next;
-        rest = id_of k ∷ bytes_from bytes (start + 1);
-        contents = is.contents;
-        before = is.before;
-        offset = is.offset;
-        comes_to = subst (ComesTo bytes start next) same r.comes;
-        has = is.has;
-        entry_is = is.entry_is;
-        byte_is = omega (arith, is.distance_is);
-      }
+  pub found_at : get_or bytes start 0 ≡ id_of k → length bytes < 2 ^ 30 → IsSectionFound bytes k (Some start)
+  found_at id small =
+      let after : bytes_from bytes start ≡ id_of k ∷ drop (start + 1) bytes =
+      front ∙ ap (λ (b : ℕ). b ∷ bytes_from bytes (start + 1)) id ∙ ap (λ (l : List ℕ). id_of k ∷ l) (from_is bytes (start + 1)) in
+      let there = subst (IsSoughtTo k bytes start next) after r in
+      record { next = next; comes_to = there.comes; none_before = there.none; within = some; short = small }
 
-  pub none_at : (entry : ℕ) → get_or bytes start 0 ≡ id_of k
-      → IsEntryInSection k (id_of k ∷ bytes_from bytes (start + 1)) entry None → IsEntryPlace bytes k entry None
-  none_at entry id is =
-      let same : bytes_from bytes start ≡ id_of k ∷ bytes_from bytes (start + 1) = front ∙ ap (λ (b : ℕ). b ∷ bytes_from bytes (start + 1)) id in
-      let there = subst (IsSoughtTo k bytes start next) same r in
-      inr (inr (record {
-        start = start;
-        next = next;
-        rest = id_of k ∷ bytes_from bytes (start + 1);
-        comes_to = there.comes;
-        none_before = there.none;
-        why = inr (inr is);
-      }))
-
-  pub stopped_at : (entry after : ℕ) → IsPassed start next after (bytes_from bytes start) None → IsEntryPlace bytes k entry None
-  stopped_at entry after (unread, same) = inr (inr (record {
+  pub stopped_at : (after : ℕ) → IsPassed start next after (bytes_from bytes start) None → IsSectionFound bytes k None
+  stopped_at after (unread, same) = inr (inr (record {
     start = start;
     next = next;
     rest = bytes_from bytes start;
     comes_to = r.comes;
     none_before = r.none;
-    why = inr (inl (is_unread start next (bytes_from bytes start) unread.0 unread.1));
+    why = inr (is_unread start next (bytes_from bytes start) unread.0 unread.1);
   }))
 
-pub ended_at : (k : SectionKind) (bytes : List ℕ) (start next entry : ℕ) → IsSoughtTo k bytes start next (bytes_from bytes start) → length bytes ≤ start
-    → IsEntryPlace bytes k entry None
-ended_at k bytes start next entry r l =
+pub ended_at : (k : SectionKind) (bytes : List ℕ) (start next : ℕ) → IsSoughtTo k bytes start next (bytes_from bytes start) → length bytes ≤ start
+    → IsSectionFound bytes k None
+ended_at k bytes start next r l =
     let e : bytes_from bytes start ≡ [] = nil_from_length (bytes_from bytes start) (omega (arith, ap length (from_is bytes start), length-drop start bytes)) in
     inr (inr (record {
       start = start;
@@ -154,3 +133,106 @@ ended_at k bytes start next entry r l =
       none_before = r.none;
       why = inl e;
     }))
+
+-- ---- what is found in the section that is found
+
+pub unsought_entry : (k : SectionKind) (bytes : List ℕ) (entry : ℕ) → IsSectionFound bytes k None → IsEntryPlace bytes k entry None
+unsought_entry k bytes entry (inl long) = inl long
+unsought_entry k bytes entry (inr (inl other)) = inr (inl other)
+unsought_entry k bytes entry (inr (inr u)) = inr (inr (record {
+  start = u.start;
+  next = u.next;
+  rest = u.rest;
+  comes_to = u.comes_to;
+  none_before = u.none_before;
+  why = why u.why;
+})) where
+  why : (u.rest ≡ []) ⊎ IsUnread (grammar.section u.start u.next) u.rest
+      → (u.rest ≡ []) ⊎ (IsUnread (grammar.section u.start u.next) u.rest ⊎ SectionHasNoEntry k u.rest entry)
+  why (inl empty) = inl empty
+  why (inr unread) = inr (inl unread)
+
+pub unsought_contents : (k : SectionKind) (bytes : List ℕ) → IsSectionFound bytes k None → IsContentsPlace bytes k None
+unsought_contents k bytes (inl long) = inl long
+unsought_contents k bytes (inr (inl other)) = inr (inl other)
+unsought_contents k bytes (inr (inr u)) = inr (inr (record {
+  start = u.start;
+  next = u.next;
+  rest = u.rest;
+  comes_to = u.comes_to;
+  none_before = u.none_before;
+  why = why u.why;
+})) where
+  why : (u.rest ≡ []) ⊎ IsUnread (grammar.section u.start u.next) u.rest
+      → (u.rest ≡ []) ⊎ (IsUnread (grammar.section u.start u.next) u.rest ⊎ SectionHasNoContents k u.rest)
+  why (inl empty) = inl empty
+  why (inr unread) = inr (inl unread)
+
+module _ (k : SectionKind) (bytes : List ℕ) (start : ℕ) (a : IsSectionAt bytes k start) where
+  -- what the calls take as the bytes from the id on
+  abbrev taken : List ℕ
+  taken = id_of k ∷ bytes_from bytes (start + 1)
+
+  same : taken ≡ id_of k ∷ drop (start + 1) bytes
+  same = ap (λ (l : List ℕ). id_of k ∷ l) (from_is bytes (start + 1))
+
+  pub taken_long : length taken ≡ length bytes - start
+  taken_long = omega (arith, ap length (from_is bytes (start + 1)), length-drop (start + 1) bytes, a.within)
+
+  record Comes : Type 0 where
+    comes : ComesTo bytes start a.next taken
+    none : All (λ p. section_id p ≢ id_of k) comes.before
+
+  comes_to : Comes
+  comes_to =
+      let P : List ℕ → Type 0 = λ l. IsSoughtTo k bytes start a.next l in
+      let s : IsSoughtTo k bytes start a.next (id_of k ∷ drop (start + 1) bytes) = record { comes = a.comes_to; none = a.none_before } in
+      let t = subst P (sym same) s in
+      record { comes = t.comes; none = t.none }
+
+  pub entry_at : (entry distance : ℕ) → IsEntryInSection k taken entry (Some distance) → IsEntryPlace bytes k entry (Some (start + distance))
+  entry_at entry distance is = record {
+    start = start;
+    next = a.next;
+    rest = taken;
+    contents = is.contents;
+    before = is.before;
+    offset = is.offset;
+    comes_to = comes_to.comes;
+    has = is.has;
+    entry_is = is.entry_is;
+    byte_is = omega (arith, is.distance_is);
+  }
+
+  pub no_entry_at : (entry : ℕ) → IsEntryInSection k taken entry None → IsEntryPlace bytes k entry None
+  no_entry_at entry is = inr (inr (record {
+    start = start;
+    next = a.next;
+    rest = taken;
+    comes_to = comes_to.comes;
+    none_before = comes_to.none;
+    why = inr (inr is);
+  }))
+
+  pub contents_at : (found : Contents) → AreContentsIn k taken (Some found) → IsContentsPlace bytes k (Some (start + found.before))
+  contents_at found is = record {
+    start = start;
+    next = a.next;
+    rest = taken;
+    contents = found.contents.now;
+    before = found.before;
+    comes_to = comes_to.comes;
+    none_before = comes_to.none;
+    has = is.has;
+    byte_is = refl;
+  }
+
+  pub no_contents_at : AreContentsIn k taken None → IsContentsPlace bytes k None
+  no_contents_at is = inr (inr (record {
+    start = start;
+    next = a.next;
+    rest = taken;
+    comes_to = comes_to.comes;
+    none_before = comes_to.none;
+    why = inr (inr is);
+  }))

@@ -1,9 +1,11 @@
 pub mod AfterId
 pub mod ContentLaws
 pub mod EntryLaws
+pub mod SizedContents
 pub mod EntryPlaces
 pub mod EntrySearch
 pub mod IdLaws
+pub mod KindSections
 pub mod Located
 pub mod Passing
 pub mod Placed

@@ -3,6 +3,7 @@ pub mod Entries
 pub mod EntryFound
 pub mod Found
 pub mod Kinds
+pub mod Listed
 pub mod Places
 pub mod Sought
 pub mod Texts

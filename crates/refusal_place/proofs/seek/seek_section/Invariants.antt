@@ -1,7 +1,7 @@
 use Rattle.std.proofs.Common.{◌-◌, ◌≤◌, length}
 use Rattle.refusal_place.proofs.EntrySearch.{IsSoughtTo}
 use Rattle.refusal_place.proofs.Located.{bytes_from}
-use Rattle.refusal_place.proofs.entry.entry_place.Given as goal
+use Rattle.refusal_place.proofs.seek.seek_section.Given as goal
 
 abbrev pub invariant-sections : goal.invariant-sections
 invariant-sections l = record {
