@@ -1,18 +1,14 @@
 -- Where an entry of a section begins.
-use Rattle.std.proofs.Common.{◌≡◌, ℕ, ◌+◌, ◌-◌, ◌<◌, ◌≤◌, List, ◌∷◌, ◌++◌, length, take, drop, Option, Some, None, Result, Ok, Err, refl, sym, ap, subst, ◌∙◌, arith, inl, inr}
+use Rattle.std.proofs.Common.{◌≡◌, ℕ, ◌+◌, ◌-◌, ◌<◌, ◌≤◌, List, length, Option, Some, None, Result, Ok, Err, refl, subst, arith, inl, inr}
 use Rattle.std.specs.Prelude.{IfOk}
-use Rattle.std.proofs.lemmas.List.{length-append, length-take, take-append-drop}
 use Rattle.wasm_spec.specs.Parts.{Part}
-use Rattle.wasm_spec.specs.Numbers.{SpellsUnsigned}
-use Rattle.form_reader.specs.Reading.{Bad, Reader}
-use Rattle.form_reader.specs.ReadingNumbers.{unsigned_at}
+use Rattle.form_reader.specs.Reading.{Reader}
 use Rattle.form_reader.specs.Agrees.{Agrees}
 use Rattle.form_reader.specs.NumberLaws.{unsigned_agrees}
 use Rattle.refusal_place.specs.declared.kind.SectionKind.{SectionKind}
 use Rattle.refusal_place.specs.declared.seek.Contents.{Contents}
 use Rattle.refusal_place.specs.declared.place.Fault.{Fault}
-use Rattle.refusal_place.specs.Kinds.{id_of, OfEntries}
-use Rattle.refusal_place.specs.Places.{HasContents}
+use Rattle.refusal_place.specs.Kinds.{OfEntries}
 use Rattle.refusal_place.specs.Found.{IsEntryRead, ReadsUpTo}
 use Rattle.refusal_place.specs.Entries.{HasEntry}
 use Rattle.refusal_place.specs.EntryFound.{IsEntryFound, IsEntryIn, IsEntryInSection}

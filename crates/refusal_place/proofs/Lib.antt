@@ -11,4 +11,5 @@ pub mod Passing
 pub mod Placed
 pub mod WorkedEntries
 pub mod WorkedPlaces
+pub mod Unlisted
 pub mod Wrong

@@ -7,7 +7,6 @@ use Rattle.form_reader.specs.ReadingNumbers.{unsigned_at}
 use Rattle.form_reader.specs.NumberLaws.{unsigned_agrees}
 use Rattle.refusal_place.specs.declared.kind.SectionKind.{SectionKind}
 use Rattle.refusal_place.specs.Kinds.{id_of}
-use Rattle.refusal_place.specs.Places.{HasContents}
 use Rattle.refusal_place.specs.Contents.{SectionHasNoContents}
 use Rattle.refusal_place.specs.Sought.{AreTheContents}
 use Rattle.refusal_place.proofs.ContentLaws.{no_number}

@@ -1,10 +1,11 @@
 //! Where an entry of a section begins.
 
-ghost use Rattle.std.specs.Prelude.{◌∷◌, IfOk};
+ghost use Rattle.std.specs.Prelude.{◌≡◌, ◌∷◌, None, IfOk};
 ghost use Rattle.refusal_place.specs.Entries.{IsEntryPlace};
 ghost use Rattle.refusal_place.specs.EntryFound.{IsEntryFound, IsEntryIn, IsEntryInSection};
 ghost use Rattle.refusal_place.specs.Found.{Shortens};
 ghost use Rattle.refusal_place.specs.Kinds.{id_of};
+ghost use Rattle.refusal_place.specs.Listed.{ListsAtMost};
 
 use crate::entries::{Single, pass_entry};
 use crate::kind::SectionKind;
@@ -30,7 +31,9 @@ pub fn entry_place(
     section: SectionKind,
     entry: u32,
 ) -> Result<Option<u32>, OutOfMemory>
-    ensures { IfOk result (IsEntryPlace bytes.now section entry) }
+    ensures place { IfOk result (IsEntryPlace bytes.now section entry) }
+    // A module that the bytes spell lists no such entry.
+    ensures none { IfOk result (λ place. place ≡ None → ListsAtMost bytes.now section entry) }
 {
     let Some(start) = seek_section(alloc, bytes, section)? else {
         return Ok(None);

@@ -1,9 +1,10 @@
 //! The first section of a kind, and where its contents begin.
 
-ghost use Rattle.std.specs.Prelude.{◌∷◌, IfOk};
+ghost use Rattle.std.specs.Prelude.{◌≡◌, ◌∷◌, None, IfOk};
 ghost use Rattle.refusal_place.specs.Contents.{IsContentsPlace};
 ghost use Rattle.refusal_place.specs.Sought.{AreContentsIn, IsSectionFound};
 ghost use Rattle.refusal_place.specs.Kinds.{id_of};
+ghost use Rattle.refusal_place.specs.Listed.{HasNoSection};
 
 use crate::header::header_fault;
 use crate::kind::SectionKind;
@@ -24,7 +25,9 @@ pub fn contents_place(
     bytes: &[u8],
     section: SectionKind,
 ) -> Result<Option<u32>, OutOfMemory>
-    ensures { IfOk result (IsContentsPlace bytes.now section) }
+    ensures place { IfOk result (IsContentsPlace bytes.now section) }
+    // A module that the bytes spell has no such section.
+    ensures none { IfOk result (λ place. place ≡ None → HasNoSection bytes.now section) }
 {
     let Some(start) = seek_section(alloc, bytes, section)? else {
         return Ok(None);
