@@ -1,8 +1,6 @@
 -- What is listed.
-use Rattle.std.specs.Prelude.{ℕ, List, length, ◌<◌, ◌^◌}
+use Rattle.std.specs.Prelude.{ℕ, length, ◌<◌}
 use Rattle.wasm_spec.specs.Module.{Module}
-use Rattle.wasm_spec.specs.Grammar.{Spells}
-use Rattle.wasm_spec.specs.Interfaces.{HasNoInterfaceTypes}
 use Rattle.rule_spec.specs.Lists.{Lists, lists_of_module}
 use Rattle.rule_breaks.specs.declared.lists.ModuleList.{ModuleList}
 use Rattle.rule_breaks.specs.declared.lists.ModuleList.TheVariants as list

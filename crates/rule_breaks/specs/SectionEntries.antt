@@ -1,13 +1,12 @@
 -- Which entry of a section has an entry of a list, and where it begins (core specification, 2.5,
 -- indices, and 5.5, sections).
-use Rattle.std.specs.Prelude.{◌≡◌, ◌⊎◌, ℕ, ◌+◌, ◌<◌, ◌≤◌, List, length, take, map, Option, Some, slice_get}
+use Rattle.std.specs.Prelude.{◌≡◌, ◌⊎◌, ℕ, ◌+◌, ◌<◌, ◌≤◌, List, length, take, Option, Some, slice_get}
 use Rattle.std.specs.List.{flat_map, filter_map}
 use Rattle.wasm_spec.specs.declared.entities.TypeRef.{TypeRef}
 use Rattle.wasm_spec.specs.declared.types.UnpackedIndex.{UnpackedIndex}
 use Rattle.wasm_spec.specs.TypeData.{Group}
 use Rattle.wasm_spec.specs.Module as plain
 use Rattle.wasm_spec.specs.Module.{Import, Module, imported_of}
-use Rattle.rule_spec.specs.Lists.{lists_of_module}
 use Rattle.refusal_place.specs.declared.kind.SectionKind.{SectionKind}
 use Rattle.refusal_place.specs.declared.kind.SectionKind.TheVariants as kind
 use Rattle.refusal_place.specs.Entries.{IsEntryAt}

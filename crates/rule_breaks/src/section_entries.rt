@@ -1,6 +1,6 @@
 //! The entry of a section that has an entry of a list.
 
-ghost use Rattle.std.specs.Prelude.{◌<◌, length, IfOk};
+ghost use Rattle.std.specs.Prelude.{◌≡◌, ◌<◌, length, IfOk};
 ghost use Rattle.wasm_spec.specs.Module.{groups, imports, types};
 ghost use Rattle.form_lists.specs.Source.{source_module};
 ghost use Rattle.rule_breaks.specs.ImportKinds.{is_import_of, IsIndexed};
@@ -30,7 +30,7 @@ pub(crate) fn section_entry(
     source: Source<'_, '_>,
     place: Break,
 ) -> Result<SectionEntry, AllocError>
-    requires { IsListed (source_module source.entry) place.list place.entry }
+    requires { IsListed (source_module source) place.list place.entry }
     ensures { IfOk result (λ e. IsEntryOf (source_module source.entry) place.list place.entry e.section e.entry) }
 {
     let entry = place.entry;
@@ -70,14 +70,14 @@ fn entry_in(section: SectionKind, entry: u32) -> SectionEntry
 
 /// The recursion group that has the type with this index.
 fn group_of_type(alloc: Global, source: Source<'_, '_>, index: u32) -> Result<u32, AllocError>
-    requires { index < length (types (source_module source.entry)) }
+    requires { index < length (types (source_module source)) }
     ensures { IfOk result (IsGroupOf (groups (source_module source.entry)) index) }
 {
     let mut left = index as usize;
     let mut number = 0;
     let mut groups = walk_of::<RecGroup>(alloc, source);
     while groups.advance()? {
-        let count = groups.entry().types.len();
+        let count = groups.entry().types.as_slice().len();
         if left < count {
             return Ok(number);
         }

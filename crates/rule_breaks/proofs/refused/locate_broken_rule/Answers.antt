@@ -3,6 +3,7 @@ use Rattle.form_data.specs.Views.{module_of}
 use Rattle.form_reader.specs.declared.error.ReadError.TheVariants as read
 use Rattle.rule_spec.specs.Rules.{Keeps}
 use Rattle.wasm_spec.specs.Module.{Module}
+use Rattle.rule_breaks.proofs.PlacedEntries.{breaks_first}
 use Rattle.rule_breaks.proofs.refused.locate_broken_rule.Goals as goal
 
 pub returns-in-Err-Malformed-clause-none : goal.returns-in-Err-Malformed-clause-none
@@ -22,10 +23,7 @@ pub locate_break-requires : goal.locate_break-requires
 locate_break-requires c = c.in-Err-Invalid.ensures.first c.in-Err-Invalid.rule (ap Err c.in-Err-Invalid.field-0-is)
 
 pub returns-in-Some-clause-first : goal.returns-in-Some-clause-first
-returns-in-Some-clause-first c = record {
-  of = module_of c.in-Ok.form;
-  spelled = c.in-Ok.ensures.read;
-  no_interface_types = c.in-Ok.ensures.no_interface_types;
-  before = c.in-Err-Invalid.ensures.first c.in-Err-Invalid.rule (ap Err c.in-Err-Invalid.field-0-is);
-  first = rw c.in-Some.is at c.in_ok-place-in-Err-Invalid.ensures.first;
-}
+returns-in-Some-clause-first c =
+    breaks_first c.args.bytes.now (module_of c.in-Ok.form) c.in-Err-Invalid.rule c.in-Some.place c.in_ok-broken_at-in-Some.field-0 c.in-Ok.ensures.read
+    c.in-Ok.ensures.no_interface_types (c.in-Err-Invalid.ensures.first c.in-Err-Invalid.rule (ap Err c.in-Err-Invalid.field-0-is))
+    (rw c.in-Some.is at c.in_ok-place-in-Err-Invalid.ensures.first) c.in_ok-broken_at-in-Some.ensures
