@@ -34,7 +34,7 @@ flags-types : (ds : List Declared) → map flag_declared ds ≡ map flag (map (�
 flags-types [] = refl
 flags-types (d ∷ ds) = ap (λ bs. flag_declared d ∷ bs) (flags-types ds)
 
-flags-declared : (gs : List (Group UnpackedIndex UnpackedIndex)) → map flag_declared (declared_groups 0 gs) ≡ function_flags gs
+pub flags-declared : (gs : List (Group UnpackedIndex UnpackedIndex)) → map flag_declared (declared_groups 0 gs) ≡ function_flags gs
 flags-declared gs = flags-types (declared_groups 0 gs) ∙ ap (map flag) (declared-types 0 gs) ∙ flags-joined gs
 
 function-flagged : (k : Composite UnpackedIndex UnpackedIndex) → (is_function k ≡ true) ↔ IsFunction k
@@ -53,7 +53,7 @@ at-option (Some d) =
 
 -- where the flags are those of all declared types, the rule is kept where they say so
 module _ (m : plain.Module) (flags : List Bool) (are : flags ≡ function_flags (plain.groups m)) where
-  flagged : (i : ℕ) → (slice_get flags i ≡ Some true)
+  pub flagged : (i : ℕ) → (slice_get flags i ≡ Some true)
       ↔ IsSomeAnd (option_map (λ (d : Declared). d.type.composite.inner) (slice_get (declared_groups 0 (plain.groups m)) i)) IsFunction
   flagged i =
       let e : slice_get flags i ≡ option_map flag_declared (slice_get (declared_groups 0 (plain.groups m)) i) =
@@ -71,7 +71,7 @@ module _ (m : plain.Module) (flags : List Bool) (are : flags ≡ function_flags 
     named (Module i) = flagged i
     named i = (λ h. absurd h, λ h. absurd h)
 
-  same : (d : Declared) → IsWell flags d ↔ IsDeclaredWell (lists_of_module m) d
+  pub same : (d : Declared) → IsWell flags d ↔ IsDeclaredWell (lists_of_module m) d
   same d =
       let c = continues d.type.composite.inner in (
         λ w. record { indices = w.names.indices; supertype = w.names.supertype; continuation = c.0 w.continuation },

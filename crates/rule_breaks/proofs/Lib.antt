@@ -6,3 +6,9 @@ pub mod DeclaredWell
 pub mod SoughtEntries
 pub mod IndexedImports
 pub mod PlacedEntries
+pub mod Numbered
+pub mod FirstPast
+pub mod Referring
+pub mod Lacking
+pub mod Earlier
+pub mod MemberFaults

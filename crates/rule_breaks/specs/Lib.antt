@@ -8,3 +8,9 @@ pub mod ImportKinds
 pub mod SectionEntries
 pub mod Refused
 pub mod BrokenAt
+pub mod Named
+pub mod Faults
+pub mod Past
+pub mod FaultKept
+pub mod FaultTexts
+pub mod WorkedFaults

@@ -81,7 +81,7 @@ fn first_other_count(source: Source<'_, '_>, count: u32) -> Result<Option<u32>, 
 }
 
 /// The number of data segments that a section states.
-fn stated_in(section: Section<'_, '_>) -> Option<u32>
+pub(crate) fn stated_in(section: Section<'_, '_>) -> Option<u32>
     ensures { option_to_list result ≡ flat_map data_counts_of_section (sections_in section.entry) }
 {
     match section {

@@ -59,7 +59,7 @@ fn first_bad_member(
 }
 
 /// Of each declared type, whether it is a function type.
-fn functions_in(alloc: Global, source: Source<'_, '_>) -> Result<Vec<bool>, AllocError>
+pub(crate) fn functions_in(alloc: Global, source: Source<'_, '_>) -> Result<Vec<bool>, AllocError>
     ensures { IfOk result (λ flags. flags.items ≡ function_flags (groups (source_module source.entry))) }
 {
     let mut flags = Vec::new(alloc);

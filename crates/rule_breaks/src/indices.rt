@@ -49,7 +49,7 @@ fn first_start(lists: &Lists<'_, '_>) -> Result<Option<u32>, AllocError>
 }
 
 /// The start function that a section names.
-fn start_in(section: Section<'_, '_>) -> Option<u32>
+pub(crate) fn start_in(section: Section<'_, '_>) -> Option<u32>
     ensures { option_to_list result ≡ flat_map starts_of_section (sections_in section.entry) }
 {
     match section {

@@ -1,6 +1,8 @@
 //! Each public call once, with ample memory.
 
-use crate::{Break, BrokenRule, ModuleList, locate_break, locate_broken_rule};
+use crate::{
+    Break, BrokenRule, ModuleList, RuleFault, fault_of_break, locate_break, locate_broken_rule,
+};
 use form_reader::read_module;
 use form_rules::{CheckError, check};
 use refusal_place::SectionKind;
@@ -131,5 +133,35 @@ fn the_third_type_is_in_the_second_group(rt: HostRuntime) -> Result<(), Fail> {
         byte: 19,
     };
     assert!(rt; locate_broken_rule(rt.alloc(), &PAST_SECOND_GROUP)? == Some(broken));
+/// What is wrong with the first entry that breaks the rule.
+fn fault_of(rt: &HostRuntime, bytes: &[u8]) -> Result<RuleFault, Fail> {
+    let form = read_module(rt.alloc(), bytes)?;
+    let Err(CheckError::Invalid(rule)) = check(rt.alloc(), &form) else {
+        return Err(Fail::from("not refused"));
+    };
+    let Some(place) = locate_break(rt.alloc(), &form, rule)? else {
+        return Err(Fail::from("no place"));
+    };
+    Ok(fault_of_break(rt.alloc(), &form, rule, place)?)
+}
+
+#[test]
+fn the_maximum_is_below_the_minimum(rt: HostRuntime) -> Result<(), Fail> {
+    let fault = fault_of(&rt, &NARROW)?;
+    let expected = RuleFault::MaximumBelowMinimum {
+        minimum: 2,
+        maximum: 1,
+    };
+    assert!(rt; fault == expected);
+    let text = format!(in rt.alloc(); "{fault}")?;
+    assert!(rt; text.as_str() == "the maximum 1 is below the minimum 2");
+    Ok(())
+}
+
+#[test]
+fn a_type_names_one_past_its_group(rt: HostRuntime) -> Result<(), Fail> {
+    let fault = fault_of(&rt, &PAST_GROUP)?;
+    let text = format!(in rt.alloc(); "{fault}")?;
+    assert!(rt; text.as_str() == "type index 1, but only those below 1 may be named here");
     Ok(())
 }

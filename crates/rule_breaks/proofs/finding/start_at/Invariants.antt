@@ -1,0 +1,10 @@
+use Rattle.std.specs.List.{flat_map}
+use Rattle.wasm_spec.specs.Module.{starts_of_section}
+use Rattle.form_lists.specs.Source.{source_module, sections_left}
+use Rattle.rule_breaks.proofs.Numbered.{Remaining}
+use Rattle.rule_breaks.proofs.finding.start_at.Given as goal
+
+-- the entry has another number among those that remain
+abbrev pub invariant-loop-section : goal.invariant-loop-section
+invariant-loop-section l =
+    Remaining (flat_map starts_of_section (source_module l.source)) (flat_map starts_of_section (sections_left l.section-iterator)) l.entry l.left
