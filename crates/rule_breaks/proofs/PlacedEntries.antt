@@ -25,6 +25,7 @@ use Rattle.rule_breaks.specs.declared.lists.Break.{Break}
 use Rattle.rule_breaks.specs.declared.refused.BrokenRule.{BrokenRule}
 use Rattle.rule_breaks.specs.Breaks.{IsFirstBreak}
 use Rattle.rule_breaks.specs.BrokenAt.{HasSectionEntry, IsBrokenAt}
+use Rattle.rule_breaks.specs.Faults.{IsFaultOf}
 use Rattle.rule_breaks.specs.Refused.{BreaksFirst}
 use Rattle.rule_breaks.specs.Listed.{IsListed}
 use Rattle.rule_breaks.specs.SectionEntries.{IsGroupOf, IsEntryOf, IsInSpace}
@@ -169,4 +170,8 @@ breaks_first bytes m r place b spelled none before first is = record {
       subst (P b.rule) (sym is.place_is) (subst Q (sym is.rule_is) first);
   section_entry = let P : Break → Type 0 = λ p. IsEntryOf m p.list p.entry b.section b.section_entry in subst P (sym is.place_is) is.section_entry;
   byte = is.byte;
+  fault =
+      let P : Rule → Break → Type 0 = λ r p. IsFaultOf r (lists_of_module m) p.list p.entry b.fault in
+      let Q : Rule → Type 0 = λ r. P r place in
+      subst (P b.rule) (sym is.place_is) (subst Q (sym is.rule_is) is.fault);
 }

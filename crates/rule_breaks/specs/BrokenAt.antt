@@ -11,14 +11,18 @@ use Rattle.refusal_place.specs.declared.kind.SectionKind.TheVariants as kind
 use Rattle.refusal_place.specs.Listed.{listed_count}
 use Rattle.rule_breaks.specs.declared.lists.Break.{Break}
 use Rattle.rule_breaks.specs.declared.refused.BrokenRule.{BrokenRule}
+use Rattle.rule_spec.specs.Lists.{lists_of_module}
+use Rattle.rule_breaks.specs.Faults.{IsFaultOf}
 use Rattle.rule_breaks.specs.SectionEntries.{IsEntryOf, BeginsAt}
 
--- the rule and the place, with the entry of a section that it is, and the byte where that begins
+-- the rule and the place, with the entry of a section that it is, the byte where that begins, and
+-- what is wrong with it
 pub record IsBrokenAt (bytes : List ℕ) (m : Module) (rule : Rule) (place : Break) (b : BrokenRule) : Type 0 where
   pub rule_is : b.rule ≡ rule
   pub place_is : b.place ≡ place
   pub section_entry : IsEntryOf m place.list place.entry b.section b.section_entry
   pub byte : BeginsAt bytes b.section b.section_entry b.byte
+  pub fault : IsFaultOf rule (lists_of_module m) place.list place.entry b.fault
 
 -- the module has this entry of a section of the kind; start and data count sections have one number
 abbrev pub HasSectionEntry : Module → SectionKind → ℕ → Type 0

@@ -1,5 +1,9 @@
 -- How faults of entries print.
 use Rattle.std.specs.Prelude.{ℕ, List, ◌++◌, codes, decimal, nat_eq, if◌then◌else◌}
+use Rattle.refusal_place.specs.declared.kind.SectionKind.{SectionKind}
+use Rattle.refusal_place.specs.declared.kind.SectionKind.TheVariants as kind
+use Rattle.refusal_place.specs.Texts.{section_text}
+use Rattle.rule_breaks.specs.declared.refused.BrokenRule.{BrokenRule}
 use Rattle.rule_breaks.specs.declared.fault.IndexSpace.{IndexSpace}
 use Rattle.rule_breaks.specs.declared.fault.IndexSpace.TheVariants as space
 use Rattle.rule_breaks.specs.declared.fault.ExpressionPlace.{ExpressionPlace}
@@ -70,3 +74,15 @@ fault_text (fault.Mistyped p) = place_text p ++ codes " has another type than it
 fault_text (fault.RepeatedName earlier) = codes "export " ++ decimal earlier ++ codes " has the same name"
 fault_text (fault.StartType function) = codes "the type of function " ++ decimal function ++ codes " has parameters or results"
 fault_text fault.ForeignIndex = codes "a type is named by an index that is not the module's"
+
+-- ---- with the section
+
+-- start and data count sections have one number, and no entries
+abbrev pub broken_in_text : SectionKind → ℕ → RuleFault → List ℕ
+broken_in_text kind.Start entry f = section_text kind.Start ++ codes ": " ++ fault_text f
+broken_in_text kind.DataCount entry f = section_text kind.DataCount ++ codes ": " ++ fault_text f
+broken_in_text k entry f = section_text k ++ codes ", entry " ++ decimal entry ++ codes ": " ++ fault_text f
+
+-- the section, the entry, and what is wrong
+abbrev pub broken_text : BrokenRule → List ℕ
+broken_text b = broken_in_text b.section b.section_entry b.fault

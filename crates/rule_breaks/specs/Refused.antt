@@ -7,6 +7,7 @@ use Rattle.rule_spec.specs.Lists.{lists_of_module}
 use Rattle.rule_spec.specs.Rules.{Keeps, KeepsBefore}
 use Rattle.rule_breaks.specs.declared.refused.BrokenRule.{BrokenRule}
 use Rattle.rule_breaks.specs.Breaks.{IsFirstBreak}
+use Rattle.rule_breaks.specs.Faults.{IsFaultOf}
 use Rattle.rule_breaks.specs.SectionEntries.{IsEntryOf, BeginsAt}
 
 -- the bytes spell a module that breaks the rule and none of a lower number, first at this entry,
@@ -19,6 +20,7 @@ pub record BreaksFirst (bytes : List ℕ) (b : BrokenRule) : Type 0 where
   pub first : IsFirstBreak b.rule (lists_of_module of) b.place.list b.place.entry
   pub section_entry : IsEntryOf of b.place.list b.place.entry b.section b.section_entry
   pub byte : BeginsAt bytes b.section b.section_entry b.byte
+  pub fault : IsFaultOf b.rule (lists_of_module of) b.place.list b.place.entry b.fault
 
 -- a module that is spelled by fewer than 2^30 bytes satisfies all rules
 abbrev pub KeepsIfRead : List ℕ → Type 0

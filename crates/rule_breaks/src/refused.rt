@@ -1,14 +1,20 @@
 //! The first break of a rule, from the bytes of a module.
 
-ghost use Rattle.std.specs.Prelude.{◌≡◌, ◌<◌, ◌^◌, length, IfOk, IfSome};
+ghost use Rattle.std.specs.Prelude.{◌≡◌, ◌<◌, ◌^◌, Some, length, IfOk, IfSome};
 ghost use Rattle.wasm_spec.specs.Grammar.{Spells};
 ghost use Rattle.wasm_spec.specs.Interfaces.{HasNoInterfaceTypes};
+ghost use Rattle.rule_spec.specs.Lists.{lists_of_module};
+ghost use Rattle.rule_spec.specs.Rules.{KeepsBefore};
 ghost use Rattle.form_data.specs.Views.{module_of};
+ghost use Rattle.rule_breaks.specs.Breaks.{IsFirstBreak};
+ghost use Rattle.rule_breaks.specs.FaultTexts.{broken_text};
 ghost use Rattle.rule_breaks.specs.BrokenAt.{IsBrokenAt, IsInSection};
 ghost use Rattle.rule_breaks.specs.Listed.{IsListed};
 ghost use Rattle.rule_breaks.specs.Refused.{BreaksFirst, KeepsIfRead};
 ghost use Rattle.rule_breaks.specs.SectionEntries.{BeginsAt};
 
+use crate::fault::RuleFault;
+use crate::faults::fault_of_break;
 use crate::forms::locate_break;
 use crate::lists::Break;
 use crate::section_entries::{SectionEntry, section_entry};
@@ -20,6 +26,7 @@ use form_rules::{CheckError, check};
 use refusal_place::{SectionKind, contents_place, entry_place};
 use rule_spec::Rule;
 use std::alloc::Global;
+use std::fmt;
 
 /// A rule that a module breaks, and the entry that is the first to break it.
 #[derive(Clone, Copy, Debug, PartialEq, Eq)]
@@ -34,6 +41,22 @@ pub struct BrokenRule {
     pub section_entry: u32,
     /// The offset in the input at which that entry begins.
     pub byte: u32,
+    /// What is wrong with the entry.
+    pub fault: RuleFault,
+}
+
+/// As in `memory section, entry 1: the maximum 1 is below the minimum 2`.
+impl fmt::Display for BrokenRule {
+    ghost output = { λ b. Some (broken_text b) };
+
+    fn fmt<W: fmt::Write>(&self, f: &mut fmt::Formatter<W>) -> fmt::Result {
+        match self.section {
+            SectionKind::Start | SectionKind::DataCount => {
+                write!(f, "{}: {}", self.section, self.fault)
+            }
+            section => write!(f, "{section}, entry {}: {}", self.section_entry, self.fault),
+        }
+    }
 }
 
 /// The first rule that the module breaks, and the first entry that breaks it, with where it begins;
@@ -74,16 +97,20 @@ fn broken_at(
     requires spelled { Spells bytes.now (module_of form.now) }
     requires no_interface_types { HasNoInterfaceTypes (module_of form.now) }
     requires listed { IsListed (module_of form.now) place.list place.entry }
+    requires before { KeepsBefore rule (module_of form.now) }
+    requires first { IsFirstBreak rule (lists_of_module (module_of form.now)) place.list place.entry }
     ensures { IfOk result (IsBrokenAt bytes.now (module_of form.now) rule place) }
 {
     let SectionEntry { section, entry } = section_entry(alloc, Source::Form(form), place)?;
     let byte = section_entry_place(alloc, bytes, section, entry)?;
+    let fault = fault_of_break(alloc, form, rule, place)?;
     Ok(BrokenRule {
         rule,
         place,
         section,
         section_entry: entry,
         byte,
+        fault,
     })
 }
 

@@ -64,6 +64,10 @@ fn the_import_of_a_memory_is_the_second(rt: HostRuntime) -> Result<(), Fail> {
         section: SectionKind::Import,
         section_entry: 1,
         byte: 21,
+        fault: RuleFault::MaximumBelowMinimum {
+            minimum: 2,
+            maximum: 1,
+        },
     };
     assert!(rt; locate_broken_rule(rt.alloc(), &NARROW_IMPORT)? == Some(broken));
     Ok(())
@@ -87,6 +91,10 @@ fn the_third_memory_is_the_second_that_is_defined(rt: HostRuntime) -> Result<(),
         section: SectionKind::Memory,
         section_entry: 1,
         byte: 21,
+        fault: RuleFault::MaximumBelowMinimum {
+            minimum: 2,
+            maximum: 1,
+        },
     };
     assert!(rt; locate_broken_rule(rt.alloc(), &NARROW_DEFINED)? == Some(broken));
     Ok(())
@@ -109,6 +117,7 @@ fn a_start_function_is_behind_the_size(rt: HostRuntime) -> Result<(), Fail> {
         section: SectionKind::Start,
         section_entry: 0,
         byte: 21,
+        fault: RuleFault::StartType { function: 0 },
     };
     assert!(rt; locate_broken_rule(rt.alloc(), &STARTS_WITH_PARAMETER)? == Some(broken));
     Ok(())
@@ -131,8 +140,17 @@ fn the_third_type_is_in_the_second_group(rt: HostRuntime) -> Result<(), Fail> {
         section: SectionKind::Type,
         section_entry: 1,
         byte: 19,
+        fault: RuleFault::NoEarlierType { index: 5, bound: 3 },
     };
     assert!(rt; locate_broken_rule(rt.alloc(), &PAST_SECOND_GROUP)? == Some(broken));
+    let text = format!(in rt.alloc(); "{broken}")?;
+    assert!(rt;
+        text.as_str()
+            == "type section, entry 1: type index 5, but only those below 3 may be named here"
+    );
+    Ok(())
+}
+
 /// What is wrong with the first entry that breaks the rule.
 fn fault_of(rt: &HostRuntime, bytes: &[u8]) -> Result<RuleFault, Fail> {
     let form = read_module(rt.alloc(), bytes)?;
