@@ -9,7 +9,11 @@ pub mod KindSections
 pub mod Located
 pub mod Passing
 pub mod Placed
+pub mod SectionLists
+pub mod SectionParts
+pub mod SectionsComplete
 pub mod WorkedEntries
 pub mod WorkedPlaces
 pub mod Unlisted
+pub mod WorkedSections
 pub mod Wrong

@@ -114,7 +114,7 @@ none_after (q ∷ qs) place next front rest (p ∷ ps) f (h, b, parts', is', lat
     let Q : List ℕ → Type 0 = λ l. P (length h) q l in subst Q (sym once.1) two in
     none_after qs (place + length h) (next_order next q) b rest ps f later' read some after (All-tail IsNoInterface p ps none)
 
-after_header : (a b : List ℕ) → header ++ a ≡ header ++ b → a ≡ b
+pub after_header : (a b : List ℕ) → header ++ a ≡ header ++ b → a ≡ b
 after_header a b e = ap (drop 8) e
 
 pub no_module : (bytes : List ℕ) (start next : ℕ) (rest : List ℕ) (f : Fault) → ComesTo bytes start next rest → 0 < length rest

@@ -21,7 +21,7 @@ id_in rest = get_or rest 0 0
 abbrev pub after_in : List ℕ → List ℕ
 after_in rest = take (length rest - 1) (drop 1 rest)
 
-front_is : (rest : List ℕ) → 1 ≤ length rest → rest ≡ id_in rest ∷ after_in rest
+pub front_is : (rest : List ℕ) → 1 ≤ length rest → rest ≡ id_in rest ∷ after_in rest
 front_is [] l = absurd (omega arith)
 front_is (b ∷ bytes) l = ap (λ (l : List ℕ). b ∷ l) (sym (take_all (length (b ∷ bytes) - 1) bytes (omega arith)))
 

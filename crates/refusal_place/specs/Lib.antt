@@ -6,5 +6,6 @@ pub mod Kinds
 pub mod Listed
 pub mod Places
 pub mod Sought
+pub mod SectionList
 pub mod Texts
 pub mod Worked

@@ -1,5 +1,5 @@
 -- Inputs that are no modules, and their places, for the worked examples.
-use Rattle.std.specs.Prelude.{ℕ, List, [], ◌∷◌, ◌++◌, Some, None}
+use Rattle.std.specs.Prelude.{ℕ, List, [], ◌∷◌, ◌++◌, Option, Some, None}
 use Rattle.wasm_spec.specs.Grammar.{header}
 use Rattle.refusal_place.specs.declared.kind.SectionKind.TheVariants as kind
 use Rattle.refusal_place.specs.declared.place.Fault.TheVariants as fault
@@ -41,3 +41,17 @@ at_cut byte end = record {
   fault = fault.SectionEnd end;
   decided = None;
 }
+
+-- a custom section with the name "a" and a byte after it, and a memory section
+abbrev pub custom_contents : List ℕ
+custom_contents = 0x01 ∷ 0x61 ∷ 0x05 ∷ []
+
+abbrev pub two_sections : List ℕ
+two_sections = header ++ 0x00 ∷ 0x03 ∷ (custom_contents ++ 0x05 ∷ 0x03 ∷ 0x01 ∷ 0x00 ∷ 0x01 ∷ [])
+
+-- the rows of both
+abbrev pub custom_row : ℕ × ℕ × ℕ × ℕ × Option (List ℕ)
+custom_row = (0, 8, 10, 3, Some (0x61 ∷ []))
+
+abbrev pub memory_row : ℕ × ℕ × ℕ × ℕ × Option (List ℕ)
+memory_row = (5, 13, 15, 3, None)

@@ -25,6 +25,7 @@ mod kind;
 mod numbers;
 mod place;
 mod search;
+mod section_list;
 mod sections;
 mod seek;
 mod worked;
@@ -33,8 +34,9 @@ pub use entry::entry_place;
 pub use kind::SectionKind;
 pub use place::{Fault, Place};
 pub use search::locate;
+pub use section_list::{SectionPlace, section_places};
 pub use seek::contents_place;
-pub use worked::{worked_entry, worked_place};
+pub use worked::{worked_entry, worked_place, worked_sections};
 
 #[cfg(test)]
 mod tests;

@@ -1,6 +1,8 @@
 //! Each call on small inputs, with ample memory.
 
-use crate::{Fault, Place, SectionKind, contents_place, entry_place, locate};
+use crate::{
+    Fault, Place, SectionKind, SectionPlace, contents_place, entry_place, locate, section_places,
+};
 use std::test::Fail;
 
 /// Two memories, of which the second has flags that no memory type has.
@@ -52,5 +54,40 @@ fn contents_are_found(rt: HostRuntime) -> Result<(), Fail> {
     assert!(rt; contents_place(alloc, &MEMORIES, SectionKind::Memory)? == Some(10));
     assert!(rt; contents_place(alloc, &MEMORIES, SectionKind::Start)?.is_none());
     assert!(rt; contents_place(alloc, &CUT, SectionKind::Memory)?.is_none());
+    Ok(())
+}
+
+/// A custom section with the name "a" and a byte after it, and the memory section of one memory.
+const SECTIONS: [u8; 18] = [
+    0x00, 0x61, 0x73, 0x6D, 0x01, 0x00, 0x00, 0x00, 0x00, 0x03, 0x01, 0x61, 0x05, 0x05, 0x03, 0x01,
+    0x00, 0x01,
+];
+
+#[test]
+fn sections_are_listed(rt: HostRuntime) -> Result<(), Fail> {
+    let places = section_places(rt.alloc(), &SECTIONS)?;
+    let custom = SectionPlace {
+        id: 0,
+        start: 8,
+        contents: 10,
+        size: 3,
+        name: Some("a"),
+    };
+    let memory = SectionPlace {
+        id: 5,
+        start: 13,
+        contents: 15,
+        size: 3,
+        name: None,
+    };
+    assert!(rt; places[..] == [custom, memory]);
+    Ok(())
+}
+
+#[test]
+fn cut_sections_are_not_listed(rt: HostRuntime) -> Result<(), Fail> {
+    let alloc = rt.alloc();
+    assert!(rt; section_places(alloc, &SECTIONS[..17])?.len() == 1);
+    assert!(rt; section_places(alloc, &SECTIONS[..7])?.is_empty());
     Ok(())
 }
