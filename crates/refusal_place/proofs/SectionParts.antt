@@ -1,12 +1,12 @@
 -- One section: its id, its size and its contents.
-use Rattle.std.proofs.Common.{◌≡◌, ℕ, ◌+◌, ◌-◌, ◌<◌, ◌≤◌, List, ◌∷◌, ◌++◌, length, take, drop, Option, Some, None, Ok, Err, refl, sym, ap, subst, ◌∙◌, arith}
+use Rattle.std.proofs.Common.{◌≡◌, ℕ, ◌+◌, ◌-◌, ◌<◌, ◌≤◌, List, ◌∷◌, ◌++◌, length, take, drop, Ok, Err, sym, ap, subst, ◌∙◌, arith}
 use Rattle.std.specs.List.{slice_range}
 use Rattle.std.specs.Option.{option_map}
 use Rattle.std.proofs.lemmas.List.{length-append, length-take, take-append-drop}
 use Rattle.wasm_spec.specs.Numbers.{SpellsUnsigned}
 use Rattle.form_reader.specs.Reading.{Bad}
 use Rattle.form_reader.specs.ReadingNumbers.{unsigned_at}
-use Rattle.form_reader.specs.Agrees.{ok, ok_is}
+use Rattle.form_reader.specs.Agrees.{ok_is}
 use Rattle.form_reader.specs.NumberLaws.{unsigned_agrees}
 use Rattle.refusal_place.specs.declared.section_list.SectionPlace.{SectionPlace}
 use Rattle.refusal_place.specs.SectionList.{HasName, HasNoSection, IsSection}

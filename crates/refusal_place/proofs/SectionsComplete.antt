@@ -1,13 +1,13 @@
 -- The list has each section of a module.
-use Rattle.std.proofs.Common.{◌≡◌, ℕ, ◌+◌, ◌<◌, ◌^◌, List, [], ◌∷◌, ◌++◌, length, map, take, drop, Option, Some, None, Ok, Bool, true, false, eqb, refl, sym, ap, subst, ◌∙◌, append_assoc, arith, inl, inr}
+use Rattle.std.proofs.Common.{◌≡◌, ℕ, ◌+◌, ◌<◌, ◌^◌, List, [], ◌∷◌, ◌++◌, length, map, take, drop, Option, Some, None, Bool, true, false, refl, sym, ap, subst, ◌∙◌, append_assoc, arith}
 use Rattle.std.specs.Prelude.{◌==◌, nat_le}
-use Rattle.std.proofs.lemmas.Bool.{cases_Bool, eqb-true}
+use Rattle.std.proofs.lemmas.Bool.{eqb-true}
 use Rattle.std.proofs.lemmas.List.{drop_at, take_at, length-append}
 use Rattle.wasm_spec.specs.Numbers.{SpellsUnsigned}
-use Rattle.wasm_spec.specs.Parts.{Part, choose, nothing, sized, gives, ◌>>=◌, unsigned}
+use Rattle.wasm_spec.specs.Parts.{Part, choose, nothing, sized, unsigned}
 use Rattle.wasm_spec.specs.Module.{Module, Payload, Types, Imports, FunctionTypes, Tables, Memories, Tags, Globals, Exports, Start, Elements, DataCount, Segments}
 use Rattle.wasm_spec.specs.TypeGrammar.{group, memory_type, tag_type}
-use Rattle.wasm_spec.specs.Grammar.{header, section, section_id, section_contents, placed_section, code_at, custom_contents, entries_as, number_as, order_of, next_order, import_entry, table_entry, global_entry, export_entry, element_segment, data_segment, Spells, SpellsSections}
+use Rattle.wasm_spec.specs.Grammar.{section, section_id, section_contents, placed_section, code_at, custom_contents, entries_as, number_as, order_of, next_order, import_entry, table_entry, global_entry, export_entry, element_segment, data_segment, Spells, SpellsSections}
 use Rattle.form_reader.specs.ReadingNumbers.{unsigned_at}
 use Rattle.form_reader.specs.Agrees.{ok_is}
 use Rattle.refusal_place.specs.declared.section_list.SectionPlace.{SectionPlace}
