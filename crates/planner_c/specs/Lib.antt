@@ -3,3 +3,4 @@ pub mod Links
 pub mod Places
 pub mod Refusals
 pub mod Rules
+pub mod Sections

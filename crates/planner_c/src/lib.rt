@@ -25,6 +25,7 @@ mod places;
 mod planning;
 mod refusals;
 mod rules;
+mod sections;
 mod text;
 
 pub use linking::bobbinazure_link;
@@ -33,4 +34,5 @@ pub use options::PlanOptions;
 pub use places::{PlaceRecord, bobbinazure_locate};
 pub use planning::{bobbinazure_make_plan, bobbinazure_make_plan_and_text, bobbinazure_make_text};
 pub use rules::{BrokenRuleRecord, bobbinazure_locate_rule};
+pub use sections::{SectionRow, SectionsRecord, bobbinazure_sections};
 pub use text::TextRecord;
