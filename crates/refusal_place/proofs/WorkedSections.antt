@@ -9,7 +9,7 @@ use Rattle.form_reader.specs.ReadingNumbers.{unsigned_at}
 use Rattle.form_reader.specs.Agrees.{ok_is}
 use Rattle.form_reader.specs.NumberLaws.{unsigned_agrees}
 use Rattle.refusal_place.specs.declared.section_list.SectionPlace.{SectionPlace}
-use Rattle.refusal_place.specs.SectionList.{AreSections, HasName, HasNoSection, IsSection, IsSectionList, name_of, section_row}
+use Rattle.refusal_place.specs.SectionList.{AreSections, HasName, HasNoSection, IsSection, IsSectionList, name_of, fields_of}
 use Rattle.refusal_place.specs.Worked.{cut_bytes, custom_contents, custom_row, memory_row, two_sections}
 use Rattle.refusal_place.proofs.Passing.{after_header}
 use Rattle.refusal_place.proofs.SectionParts.{pair_is, size_again}
@@ -44,7 +44,7 @@ none_after id number contents later parts size = cc
 abbrev Row : Type 0
 Row = ℕ × ℕ × ℕ × ℕ × Option (List ℕ)
 
-module _ (first second : SectionPlace) (is_first : section_row first ≡ custom_row) (is_second : section_row second ≡ memory_row) where
+module _ (first second : SectionPlace) (is_first : fields_of first ≡ custom_row) (is_second : fields_of second ≡ memory_row) where
   custom : IsSection 8 two_rest first memory_rest
   custom = record {
     number = 0x03 ∷ [];

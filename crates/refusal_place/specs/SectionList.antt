@@ -12,9 +12,9 @@ use Rattle.refusal_place.specs.Places.{IsUnspelled}
 abbrev pub name_of : SectionPlace → Option (List ℕ)
 name_of p = option_map (λ text. text.now) p.name
 
--- a section as numbers and a text
-abbrev pub section_row : SectionPlace → ℕ × ℕ × ℕ × ℕ × Option (List ℕ)
-section_row p = (p.id, p.start, p.contents, p.size, name_of p)
+-- the fields of a section, with its name as bytes
+abbrev pub fields_of : SectionPlace → ℕ × ℕ × ℕ × ℕ × Option (List ℕ)
+fields_of p = (p.id, p.start, p.contents, p.size, name_of p)
 
 -- a custom section has the name with which its contents begin; no other section has a name
 abbrev pub HasName : ℕ → List ℕ → Option (List ℕ) → Type 0
@@ -40,7 +40,7 @@ abbrev pub AreSections : ℕ → List ℕ → List SectionPlace → Type 0
 AreSections start rest [] = HasNoSection rest
 AreSections start rest (p ∷ ps) = (later : List ℕ) × IsSection start rest p later × AreSections (p.contents + p.size) later ps
 
--- the sections behind the header; none where there is no header, and where there are 2^30 bytes or more
+-- the sections behind the header; none without a header, and in 2^30 bytes or more
 pub record IsSectionList (bytes : List ℕ) (places : List SectionPlace) : Type 0 where
   pub sections : (rest : List ℕ) → bytes ≡ header ++ rest → length bytes < 2 ^ 30 → AreSections 8 rest places
   pub no_header : ((rest : List ℕ) → ¬ (bytes ≡ header ++ rest)) → places ≡ []

@@ -13,8 +13,10 @@
 //!
 //! `entry_place` says where an entry begins, for entries that are read and break a rule.
 //! `contents_place` says it of sections that list no entries.
+//! `section_places` lists the sections of any input, and the names of custom ones.
 //!
-//! Read on: `place` has the record and its sentences, `search` the call; `form_reader` reads.
+//! Read on: `place` has the record and its sentences, `search` the call, `section_list` the
+//! sections; `form_reader` reads.
 #![tactic(auto)]
 
 mod contents;

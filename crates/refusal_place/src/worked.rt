@@ -8,7 +8,7 @@ ghost use Rattle.refusal_place.specs.Entries.{IsEntryAt};
 ghost use Rattle.refusal_place.specs.Places.{Decides, IsFirstUnspelled, IsPlaceOf};
 ghost use Rattle.refusal_place.specs.Worked.{in_header, memory_contents, memory_bytes, at_memory, cut_bytes, at_cut};
 ghost use Rattle.refusal_place.specs.Worked.{two_sections, custom_row, memory_row};
-ghost use Rattle.refusal_place.specs.SectionList.{IsSectionList, name_of, section_row};
+ghost use Rattle.refusal_place.specs.SectionList.{IsSectionList, name_of, fields_of};
 ghost use Rattle.refusal_place.specs.declared.section_list.SectionPlace.{SectionPlace};
 
 /// The place of a header that is cut, of a memory that is wrong, and of a section that is cut; and
@@ -35,7 +35,7 @@ pub fn worked_entry()
 
 /// The sections of an input with two, and of one whose section is cut.
 pub fn worked_sections()
-    ensures two { (first second : SectionPlace) → section_row first ≡ custom_row → section_row second ≡ memory_row
+    ensures two { (first second : SectionPlace) → fields_of first ≡ custom_row → fields_of second ≡ memory_row
         → IsSectionList two_sections (first ∷ second ∷ []) }
     ensures not_one { (first : SectionPlace) → ¬ IsSectionList two_sections (first ∷ []) }
     ensures not_late { (first second : SectionPlace) → IsSectionList two_sections (first ∷ second ∷ []) → second.start ≡ 13 }
