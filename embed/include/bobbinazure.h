@@ -889,6 +889,23 @@ typedef struct {
     uint32_t entry; /* The index of the entry in that list, from 0 on. */
 } bobbinazure_broken_rule;
 
+/* A section of a module. Offsets count the bytes of the module, from 0 on. */
+typedef struct {
+    uint32_t id;       /* The id; no section of a module has one above 13. */
+    uint32_t start;    /* The offset of the section, which begins with its id. */
+    uint32_t contents; /* The offset of its contents. */
+    uint32_t size;     /* The length of its contents, in bytes. */
+    uint32_t has_name; /* Whether it is a custom section, with a name. */
+    /* The name, in the bytes of the module; else empty. It is never freed. */
+    bobbinazure_bytes name;
+} bobbinazure_section;
+
+/* The sections of a module. */
+typedef struct {
+    /* In order, as far as each has an id, a size and all its contents. */
+    BOBBINAZURE_LIST(bobbinazure_section) sections;
+} bobbinazure_section_list;
+
 /* The end of what embed/generate makes. */
 
 /* Plans the module that the bytes spell.
@@ -945,6 +962,16 @@ uint32_t bobbinazure_locate(const uint8_t *bytes, size_t len, bobbinazure_place 
  *   REFUSED        `broken`, which needs no init, has both
  *   NO_MEMORY      it is unchanged */
 uint32_t bobbinazure_locate_rule(const uint8_t *bytes, size_t len, bobbinazure_broken_rule *broken);
+
+/* Lists the sections of the bytes, also where they are no module: none where the header is wrong, and
+ * where there are 2^30 bytes or more.
+ *
+ * `list` must come from bobbinazure_sections_init, and bobbinazure_sections_free frees it. The names
+ * are in the bytes, which must outlive the list.
+ *
+ *   PLANNED        it has the sections
+ *   NO_MEMORY      it is unchanged */
+uint32_t bobbinazure_sections(const uint8_t *bytes, size_t len, bobbinazure_section_list *list);
 
 /* The offset in the module of bytes that a plan has from it: the code of a body, a segment, a name. */
 static inline size_t bobbinazure_offset(const uint8_t *module, bobbinazure_bytes part) {
@@ -1003,6 +1030,15 @@ static inline bobbinazure_link_record bobbinazure_link_init(void) {
     return links;
 }
 
+static inline bobbinazure_section_list bobbinazure_sections_init(void) {
+    static const uint64_t nothing[4] = {0, 0, 0, 0};
+    const void *at = nothing;
+    bobbinazure_section_list list;
+    memset(&list, 0, sizeof list);
+    memcpy(&list.sections.at, &at, sizeof at);
+    return list;
+}
+
 /* Frees what a call filled, and leaves empty lists. A plan that no call filled may be freed too. */
 static inline void bobbinazure_plan_free(bobbinazure_plan *plan) {
     for (size_t i = 0; i < plan->runtime.len; i++)
@@ -1027,6 +1063,11 @@ static inline void bobbinazure_place_free(bobbinazure_place *place) {
 static inline void bobbinazure_link_free(bobbinazure_link_record *links) {
     if (links->answers.len) free((void *)links->answers.at);
     *links = bobbinazure_link_init();
+}
+
+static inline void bobbinazure_sections_free(bobbinazure_section_list *list) {
+    if (list->sections.len) free((void *)list->sections.at);
+    *list = bobbinazure_sections_init();
 }
 
 #ifdef __cplusplus

@@ -414,6 +414,17 @@ BOBBINAZURE_AT(broken_rule, rule, 0);
 BOBBINAZURE_AT(broken_rule, list, 4);
 BOBBINAZURE_AT(broken_rule, entry, 8);
 
+BOBBINAZURE_SIZE(section, 40);
+BOBBINAZURE_AT(section, id, 0);
+BOBBINAZURE_AT(section, start, 4);
+BOBBINAZURE_AT(section, contents, 8);
+BOBBINAZURE_AT(section, size, 12);
+BOBBINAZURE_AT(section, has_name, 16);
+BOBBINAZURE_AT(section, name, 24);
+
+BOBBINAZURE_SIZE(section_list, 16);
+BOBBINAZURE_AT(section_list, sections, 0);
+
 #undef BOBBINAZURE_AT
 #undef BOBBINAZURE_SIZE
 #undef BOBBINAZURE_ASSERT

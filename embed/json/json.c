@@ -408,16 +408,37 @@ static void put_refusal(const bobbinazure_plan *plan, const uint8_t *module, siz
     close_object();
 }
 
+/* Those of any input, refused or not. */
+static void put_sections(const bobbinazure_section_list *list) {
+    open_list("sections");
+    for (size_t i = 0; i < list->sections.len; i++) {
+        const bobbinazure_section *section = &list->sections.at[i];
+        open_object(0);
+        number("id", section->id);
+        number("start", section->start);
+        number("contents", section->contents);
+        number("size", section->size);
+        if (section->has_name) bytes("name", section->name);
+        else null("name");
+        close_object();
+    }
+    close_list();
+}
+
 static int print_json(const uint8_t *module, size_t len, const bobbinazure_options *options) {
     bobbinazure_plan plan = bobbinazure_plan_init();
+    bobbinazure_section_list list = bobbinazure_sections_init();
     uint32_t status = bobbinazure_make_plan(module, len, options, &plan);
+    if (bobbinazure_sections(module, len, &list)) status = BOBBINAZURE_NO_MEMORY;
     if (status == BOBBINAZURE_PLANNED || status == BOBBINAZURE_REFUSED) {
         open_object(0);
         if (status == BOBBINAZURE_PLANNED) put_plan(&plan, module);
         else put_refusal(&plan, module, len);
+        put_sections(&list);
         fputs("\n}\n", stdout);
         if (fflush(stdout) || ferror(stdout)) status = WRITE_FAILED;
     }
+    bobbinazure_sections_free(&list);
     bobbinazure_plan_free(&plan);
     return (int)status;
 }

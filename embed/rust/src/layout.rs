@@ -411,4 +411,15 @@ laid_out! {
         list 4,
         entry 8,
     }
+    Section: 40 {
+        id 0,
+        start 4,
+        contents 8,
+        size 12,
+        has_name 16,
+        name 24,
+    }
+    SectionsRecord: 16 {
+        sections 0,
+    }
 }

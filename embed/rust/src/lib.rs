@@ -37,6 +37,7 @@ mod places;
 mod plan;
 mod records;
 mod rows;
+mod sections;
 mod startup;
 mod types;
 
@@ -55,6 +56,7 @@ pub use rows::{
     MemoryDefinitionLayout, MemoryImportLayout, Operator, Options, StaticContextLayout, StoreContextLayout, Structs, Table, TableDefinitionLayout,
     TableImportLayout, Tag, TagDefinitionLayout, TagImportLayout, Trampoline, Value,
 };
+pub use sections::{Section, sections};
 pub use startup::{
     DataSegment, ElementSegment, Expressions, GlobalInit, Items, MemoryImage, ModuleStartup, PassiveData, PassiveElements, Region, SegmentOffset,
 };

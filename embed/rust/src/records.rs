@@ -274,3 +274,11 @@ pub(crate) struct LinkRecord {
     /// The answer to each import of the second module, in order.
     pub(crate) answers: List<ImportAnswer>,
 }
+
+/// The sections of a module.
+#[repr(C)]
+#[derive(Default)]
+pub(crate) struct SectionsRecord {
+    /// In order, as far as each has an id, a size and all its contents.
+    pub(crate) sections: List<Section>,
+}

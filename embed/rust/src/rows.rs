@@ -718,3 +718,21 @@ pub struct BrokenRule {
     /// The index of the entry in that list, from 0 on.
     pub entry: u32,
 }
+
+/// A section of a module. Offsets count the bytes of the module, from 0 on.
+#[repr(C)]
+#[derive(Default)]
+pub struct Section {
+    /// The id; no section of a module has one above 13.
+    pub id: u32,
+    /// The offset of the section, which begins with its id.
+    pub start: u32,
+    /// The offset of its contents.
+    pub contents: u32,
+    /// The length of its contents, in bytes.
+    pub size: u32,
+    /// Whether it is a custom section, with a name.
+    pub has_name: u32,
+    /// The name, in the bytes of the module; else empty. It is never freed.
+    pub(crate) name: List<u8>,
+}
