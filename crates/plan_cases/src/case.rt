@@ -83,7 +83,7 @@ pub struct Spot {
 /// What a case says of where its bytes are refused.
 #[derive(Clone, Copy)]
 pub enum At {
-    /// They are read whole.
+    /// They are read whole, and satisfy all rules.
     Nowhere,
     /// Where they end, and no entry is wrong.
     End,

@@ -1,8 +1,7 @@
 //! What a run gave, compared with what it must give.
 
 use crate::case::{At, Case, DataBytes, Expected, LineCount, Spot};
-use crate::running::Outcome;
-use refusal_place::Place;
+use crate::running::{Outcome, Refusal};
 
 /// What differs from what is expected.
 #[derive(Clone, Copy)]
@@ -16,8 +15,8 @@ pub enum Difference<'a> {
     Count(&'a LineCount),
     /// The runtime data of this number differ.
     Data(u64),
-    /// The bytes are refused here, or at no place.
-    Place(Option<Place>),
+    /// The bytes are refused so, or nowhere.
+    Place(Option<Refusal>),
 }
 
 /// Whether a line is these words, or begins with them and a space.
@@ -95,11 +94,17 @@ fn wrong_end<'a>(expected: &'a Expected, outcome: &Outcome) -> Option<Difference
     None
 }
 
-/// The spot of a place.
-fn spot_of(place: Place) -> Spot {
-    Spot {
-        byte: u64::from(place.byte),
-        entry: place.entry.map(u64::from),
+/// The spot of a refusal.
+fn spot_of(refusal: Refusal) -> Spot {
+    match refusal {
+        Refusal::Unread(place) => Spot {
+            byte: u64::from(place.byte),
+            entry: place.entry.map(u64::from),
+        },
+        Refusal::Broken(broken) => Spot {
+            byte: u64::from(broken.byte),
+            entry: Some(u64::from(broken.section_entry)),
+        },
     }
 }
 
@@ -118,8 +123,8 @@ fn wanted_spot(at: At, outcome: &Outcome) -> Option<Spot> {
 /// The place of the refusal, where the case says another.
 fn wrong_place<'a>(expected: &Expected, outcome: &Outcome) -> Option<Difference<'a>> {
     match expected.at {
-        Some(at) if outcome.place.map(spot_of) != wanted_spot(at, outcome) => {
-            Some(Difference::Place(outcome.place))
+        Some(at) if outcome.refusal.map(spot_of) != wanted_spot(at, outcome) => {
+            Some(Difference::Place(outcome.refusal))
         }
         _ => None,
     }

@@ -5,8 +5,18 @@ use devices::{ListSink, ListSource};
 use entity_map::OutOfMemory;
 use init_plan::RuntimeBytes;
 use refusal_place::{Place, locate};
+use rule_breaks::{BrokenRule, locate_broken_rule};
 use std::alloc::{AllocError, Global};
 use translate::{Report, run};
+
+/// Where and why bytes are refused.
+#[derive(Clone, Copy)]
+pub enum Refusal {
+    /// They are not read as a module.
+    Unread(Place),
+    /// They break a rule.
+    Broken(BrokenRule),
+}
 
 /// What a run gave.
 #[derive(Drop)]
@@ -18,7 +28,7 @@ pub struct Outcome {
     /// The bytes of the plan's runtime data, in order.
     pub data: Vec<Vec<u8>>,
     /// Where the bytes are refused, where the case says something of it.
-    pub place: Option<Place>,
+    pub refusal: Option<Refusal>,
 }
 
 fn slice_of<'a>(data: &'a RuntimeBytes<'_>) -> &'a [u8] {
@@ -41,20 +51,23 @@ fn data_of(alloc: Global, report: &Report<'_>) -> Result<Vec<Vec<u8>>, AllocErro
 }
 
 /// Where the bytes are refused, where the case says something of it.
-fn place_of(alloc: Global, case: &Case, bytes: &[u8]) -> Result<Option<Place>, OutOfMemory> {
-    match case.expected.at {
-        Some(_) => locate(alloc, bytes),
-        None => Ok(None),
+fn refusal_of(alloc: Global, case: &Case, bytes: &[u8]) -> Result<Option<Refusal>, OutOfMemory> {
+    if case.expected.at.is_none() {
+        return Ok(None);
+    }
+    match locate(alloc, bytes)? {
+        Some(place) => Ok(Some(Refusal::Unread(place))),
+        None => Ok(locate_broken_rule(alloc, bytes)?.map(Refusal::Broken)),
     }
 }
 
-/// The run of these words over bytes that are refused at this place. Its text is the sink's.
+/// The run of these words over bytes that are refused so. Its text is the sink's.
 fn outcome_over(
     alloc: Global,
     words: &[String],
     source: &mut ListSource<'_>,
     sink: &mut ListSink<'_>,
-    place: Option<Place>,
+    refusal: Option<Refusal>,
 ) -> Result<Outcome, AllocError> {
     let mut store = Vec::new(alloc);
     let report = run(alloc, words, source, &mut store, sink);
@@ -68,7 +81,7 @@ fn outcome_over(
         read,
         text,
         data,
-        place,
+        refusal,
     })
 }
 
@@ -85,11 +98,11 @@ pub fn outcome_of(alloc: Global, case: &Case, length: u64) -> Result<Outcome, Ca
         return Err(CaseError::NoNumber);
     }
     let bytes = first_bytes(given, length);
-    let place = place_of(alloc, case, bytes)?;
+    let refusal = refusal_of(alloc, case, bytes)?;
     let mut source = ListSource::new(bytes, given.piece, given.failing_reads.as_slice());
     let failing = given.failing_writes.as_slice();
     let Ok(mut sink) = ListSink::new(alloc, given.room, given.most, failing) else {
         return Err(CaseError::OutOfMemory);
     };
-    Ok(outcome_over(alloc, given.words.as_slice(), &mut source, &mut sink, place)?)
+    Ok(outcome_over(alloc, given.words.as_slice(), &mut source, &mut sink, refusal)?)
 }

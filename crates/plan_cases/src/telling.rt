@@ -2,7 +2,7 @@
 
 use crate::case::{Case, CaseError, words_of_error};
 use crate::comparing::{Difference, text_of};
-use crate::running::Outcome;
+use crate::running::{Outcome, Refusal};
 use std::io;
 
 /// Prints what differs.
@@ -16,9 +16,16 @@ fn tell_difference(rt: &HostRuntime, difference: Difference<'_>) -> io::Result<(
             println!(rt; "not {} lines that begin '{}'", wanted.count, wanted.words)
         }
         Difference::Data(place) => println!(rt; "runtime data {place} are others"),
-        Difference::Place(Some(place)) => {
+        Difference::Place(Some(Refusal::Unread(place))) => {
             println!(rt; "the place is byte {}: {place}", place.byte)
         }
+        Difference::Place(Some(Refusal::Broken(broken))) => println!(
+            rt;
+            "the place is byte {}: {}, entry {}",
+            broken.byte,
+            broken.section,
+            broken.section_entry
+        ),
         Difference::Place(None) => println!(rt; "there is no place"),
     }
 }
