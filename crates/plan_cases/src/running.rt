@@ -104,5 +104,11 @@ pub fn outcome_of(alloc: Global, case: &Case, length: u64) -> Result<Outcome, Ca
     let Ok(mut sink) = ListSink::new(alloc, given.room, given.most, failing) else {
         return Err(CaseError::OutOfMemory);
     };
-    Ok(outcome_over(alloc, given.words.as_slice(), &mut source, &mut sink, refusal)?)
+    Ok(outcome_over(
+        alloc,
+        given.words.as_slice(),
+        &mut source,
+        &mut sink,
+        refusal,
+    )?)
 }

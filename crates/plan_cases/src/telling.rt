@@ -19,12 +19,9 @@ fn tell_difference(rt: &HostRuntime, difference: Difference<'_>) -> io::Result<(
         Difference::Place(Some(Refusal::Unread(place))) => {
             println!(rt; "the place is byte {}: {place}", place.byte)
         }
-        Difference::Place(Some(Refusal::Broken(broken))) => println!(
-            rt;
+        Difference::Place(Some(Refusal::Broken(broken))) => println!(rt;
             "the place is byte {}: {}, entry {}",
-            broken.byte,
-            broken.section,
-            broken.section_entry
+            broken.byte, broken.section, broken.section_entry
         ),
         Difference::Place(None) => println!(rt; "there is no place"),
     }
