@@ -884,9 +884,19 @@ typedef struct {
 
 /* The first rule that a module breaks, and the first entry that breaks it. */
 typedef struct {
-    uint32_t rule;  /* The rule, from 1 to 10. */
-    uint32_t list;  /* The list that has the entry: a number from BOBBINAZURE_IN_TYPES on. */
-    uint32_t entry; /* The index of the entry in that list, from 0 on. */
+    uint32_t rule;              /* The rule, from 1 to 10. */
+    /* The list that has the entry: a number from BOBBINAZURE_IN_TYPES on. */
+    uint32_t list;
+    uint32_t entry;             /* The index of the entry in that list, from 0 on. */
+    /* The id of the section that has it: of an import, the import section. */
+    uint32_t section;
+    /* The entry of that section, from 0 on: of a type, its group. 0 in a start or data count
+       section. */
+    uint32_t section_entry;
+    uint32_t byte;              /* The offset at which the section's entry begins. */
+    bobbinazure_bytes sentence; /* A sentence for people, in UTF-8, without a zero at the end. */
+    /* Whether the sentence is in memory of its own, which bobbinazure_broken_rule_free frees. */
+    uint32_t made;
 } bobbinazure_broken_rule;
 
 /* A section of a module. Offsets count the bytes of the module, from 0 on. */
@@ -956,10 +966,13 @@ uint32_t bobbinazure_link(const uint8_t *exporter, size_t exporter_len, const ui
  *   NO_MEMORY      it is unchanged */
 uint32_t bobbinazure_locate(const uint8_t *bytes, size_t len, bobbinazure_place *place);
 
-/* Says which rule a module breaks, and which entry is the first to break it: call it after INVALID.
+/* Says which rule a module breaks, where and why: call it after INVALID.
+ *
+ * `broken` must come from bobbinazure_broken_rule_init, and bobbinazure_broken_rule_free frees it. It
+ * does not point into the bytes.
  *
  *   PLANNED        the bytes are not read as a module, or it keeps the rules; `broken` is unchanged
- *   REFUSED        `broken`, which needs no init, has both
+ *   REFUSED        it says which rule, where and why
  *   NO_MEMORY      it is unchanged */
 uint32_t bobbinazure_locate_rule(const uint8_t *bytes, size_t len, bobbinazure_broken_rule *broken);
 
@@ -972,6 +985,9 @@ uint32_t bobbinazure_locate_rule(const uint8_t *bytes, size_t len, bobbinazure_b
  *   PLANNED        it has the sections
  *   NO_MEMORY      it is unchanged */
 uint32_t bobbinazure_sections(const uint8_t *bytes, size_t len, bobbinazure_section_list *list);
+
+/* The version of the library: 10000 * major + 100 * minor + patch. */
+uint32_t bobbinazure_version(void);
 
 /* The offset in the module of bytes that a plan has from it: the code of a body, a segment, a name. */
 static inline size_t bobbinazure_offset(const uint8_t *module, bobbinazure_bytes part) {
@@ -1020,6 +1036,11 @@ static inline bobbinazure_place bobbinazure_place_init(void) {
     return place;
 }
 
+static inline bobbinazure_broken_rule bobbinazure_broken_rule_init(void) {
+    bobbinazure_broken_rule broken = {0, 0, 0, 0, 0, 0, {(const uint8_t *)"", 0}, 0};
+    return broken;
+}
+
 static inline bobbinazure_link_record bobbinazure_link_init(void) {
     static const uint64_t nothing[4] = {0, 0, 0, 0};
     const void *at = nothing;
@@ -1058,6 +1079,11 @@ static inline void bobbinazure_text_free(bobbinazure_text *text) {
 static inline void bobbinazure_place_free(bobbinazure_place *place) {
     if (place->made && place->sentence.len) free((void *)place->sentence.at);
     *place = bobbinazure_place_init();
+}
+
+static inline void bobbinazure_broken_rule_free(bobbinazure_broken_rule *broken) {
+    if (broken->made && broken->sentence.len) free((void *)broken->sentence.at);
+    *broken = bobbinazure_broken_rule_init();
 }
 
 static inline void bobbinazure_link_free(bobbinazure_link_record *links) {

@@ -409,10 +409,15 @@ BOBBINAZURE_AT(place, fault, 20);
 BOBBINAZURE_AT(place, sentence, 24);
 BOBBINAZURE_AT(place, made, 40);
 
-BOBBINAZURE_SIZE(broken_rule, 12);
+BOBBINAZURE_SIZE(broken_rule, 48);
 BOBBINAZURE_AT(broken_rule, rule, 0);
 BOBBINAZURE_AT(broken_rule, list, 4);
 BOBBINAZURE_AT(broken_rule, entry, 8);
+BOBBINAZURE_AT(broken_rule, section, 12);
+BOBBINAZURE_AT(broken_rule, section_entry, 16);
+BOBBINAZURE_AT(broken_rule, byte, 20);
+BOBBINAZURE_AT(broken_rule, sentence, 24);
+BOBBINAZURE_AT(broken_rule, made, 40);
 
 BOBBINAZURE_SIZE(section, 40);
 BOBBINAZURE_AT(section, id, 0);

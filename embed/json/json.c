@@ -385,13 +385,18 @@ static const char *const lists[] = {"type", "function", "table type", "memory", 
                                     "data segment"};
 
 static void put_broken_rule(const uint8_t *module, size_t len) {
-    bobbinazure_broken_rule broken = {0, 0, 0};
+    bobbinazure_broken_rule broken = bobbinazure_broken_rule_init();
     if (bobbinazure_locate_rule(module, len, &broken) == BOBBINAZURE_REFUSED) {
         open_object("broken_by");
         word("list", lists[broken.list]);
         number("entry", broken.entry);
+        number("byte", broken.byte);
+        number("section", broken.section);
+        number("section_entry", broken.section_entry);
+        bytes("sentence", broken.sentence);
         close_object();
     } else null("broken_by");
+    bobbinazure_broken_rule_free(&broken);
 }
 
 static void put_refusal(const bobbinazure_plan *plan, const uint8_t *module, size_t len) {
@@ -443,18 +448,21 @@ static int print_json(const uint8_t *module, size_t len, const bobbinazure_optio
     return (int)status;
 }
 
+static void print_sentence(uint32_t byte, bobbinazure_bytes sentence) {
+    printf("byte %" PRIu32 ", %.*s\n", byte, (int)sentence.len, (const char *)sentence.at);
+}
+
 /* Prints the place at which a module is refused, or the entry that breaks a rule, if there is one. */
 static int print_place(const uint8_t *module, size_t len) {
     bobbinazure_place place = bobbinazure_place_init();
-    bobbinazure_broken_rule broken = {0, 0, 0};
+    bobbinazure_broken_rule broken = bobbinazure_broken_rule_init();
     uint32_t status = bobbinazure_locate(module, len, &place);
-    if (status == BOBBINAZURE_REFUSED)
-        printf("byte %" PRIu32 ", %.*s\n", place.byte, (int)place.sentence.len, (const char *)place.sentence.at);
+    if (status == BOBBINAZURE_REFUSED) print_sentence(place.byte, place.sentence);
     bobbinazure_place_free(&place);
     if (status == BOBBINAZURE_PLANNED) {
         status = bobbinazure_locate_rule(module, len, &broken);
-        if (status == BOBBINAZURE_REFUSED)
-            printf("rule L%" PRIu32 " (docs/FORMAT.md) is broken by %s %" PRIu32 "\n", broken.rule, lists[broken.list], broken.entry);
+        if (status == BOBBINAZURE_REFUSED) print_sentence(broken.byte, broken.sentence);
+        bobbinazure_broken_rule_free(&broken);
     }
     return (int)status;
 }

@@ -1,11 +1,11 @@
 -- What a record reports of the place at which a module is refused.
-use Rattle.std.specs.Prelude.{◌≡◌, ◌⊎◌, ℕ, List, Option, Some, None, IfSome}
+use Rattle.std.specs.Prelude.{◌≡◌, ◌⊎◌, ℕ, List, length, Option, Some, None, IfSome}
 use Rattle.std.specs.Option.{option_map}
 use Rattle.refusal_place.specs.declared.place.Fault.{Fault}
 use Rattle.refusal_place.specs.declared.place.Fault.TheVariants as fault
 use Rattle.refusal_place.specs.declared.place.Place.{Place}
 use Rattle.refusal_place.specs.Kinds.{id_of}
-use Rattle.refusal_place.specs.Places.{Decides, IsPlaceOf}
+use Rattle.refusal_place.specs.Places.{Decides, IsOpenWhereItEnds, IsPlaceOf}
 use Rattle.refusal_place.specs.Texts.{place_text}
 use Rattle.planner_c.specs.declared.places.PlaceRecord.{PlaceRecord}
 
@@ -45,4 +45,5 @@ pub record HasPlace (bytes : List ℕ) (P : Place → Type 0) : Type 0 where
   pub place : Place
   pub is_place : IsPlaceOf bytes place
   pub decides : IfSome place.decided (Decides bytes)
+  pub early : IsOpenWhereItEnds (length bytes) place
   pub holds : P place

@@ -4,6 +4,8 @@ use Rattle.rule_breaks.specs.declared.lists.ModuleList.{ModuleList}
 use Rattle.rule_breaks.specs.declared.lists.ModuleList.TheVariants as list
 use Rattle.rule_breaks.specs.declared.refused.BrokenRule.{BrokenRule}
 use Rattle.rule_breaks.specs.Refused.{BreaksFirst}
+use Rattle.rule_breaks.specs.FaultTexts.{broken_text}
+use Rattle.refusal_place.specs.Kinds.{id_of}
 use Rattle.planner_c.specs.declared.rules.BrokenRuleRecord.{BrokenRuleRecord}
 use Rattle.planner_c.specs.Refusals.{rule_number}
 
@@ -28,6 +30,10 @@ pub record TellsRule (b : BrokenRule) (r : BrokenRuleRecord) : Type 0 where
   pub rule : r.rule ≡ rule_number b.rule
   pub list : r.list ≡ list_number b.place.list
   pub entry : r.entry ≡ b.place.entry
+  -- the entry of a section that has it
+  pub section : (r.section ≡ id_of b.section) × (r.section_entry ≡ b.section_entry)
+  pub byte : r.byte ≡ b.byte
+  pub sentence : (r.sentence.now ≡ broken_text b) × (r.made ≡ 1)
 
 -- the bytes spell a module that breaks a rule first at an entry, of which a fact holds
 pub record HasBrokenRule (bytes : List ℕ) (P : BrokenRule → Type 0) : Type 0 where

@@ -27,6 +27,7 @@ mod refusals;
 mod rules;
 mod sections;
 mod text;
+mod version;
 
 pub use linking::bobbinazure_link;
 pub use links::{ImportAnswerRecord, LinkRecord};
@@ -36,3 +37,4 @@ pub use planning::{bobbinazure_make_plan, bobbinazure_make_plan_and_text, bobbin
 pub use rules::{BrokenRuleRecord, bobbinazure_locate_rule};
 pub use sections::{SectionRow, SectionsRecord, bobbinazure_sections};
 pub use text::TextRecord;
+pub use version::bobbinazure_version;

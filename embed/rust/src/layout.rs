@@ -406,10 +406,15 @@ laid_out! {
         sentence 24,
         made 40,
     }
-    BrokenRule: 12 {
+    BrokenRule: 48 {
         rule 0,
         list 4,
         entry 8,
+        section 12,
+        section_entry 16,
+        byte 20,
+        sentence 24,
+        made 40,
     }
     Section: 40 {
         id 0,

@@ -49,10 +49,10 @@ pub use error::{Error, Reason};
 pub use expressions::{ConstExpr, ConstOp};
 pub use interned::{GcLayout, GcLayoutKind};
 pub use links::{Answer, LinkError, link};
-pub use places::{Place, locate, locate_rule};
+pub use places::{BrokenRule, Place, locate, locate_rule};
 pub use plan::{Plan, plan_and_text, text};
 pub use rows::{
-    BranchHint, BrokenRule, Context, Entities, Field, FuncRefLayout, FunctionImportLayout, Global, GlobalDefinitionLayout, GlobalImportLayout, LayoutField, Memory,
+    BranchHint, Context, Entities, Field, FuncRefLayout, FunctionImportLayout, Global, GlobalDefinitionLayout, GlobalImportLayout, LayoutField, Memory,
     MemoryDefinitionLayout, MemoryImportLayout, Operator, Options, StaticContextLayout, StoreContextLayout, Structs, Table, TableDefinitionLayout,
     TableImportLayout, Tag, TagDefinitionLayout, TagImportLayout, Trampoline, Value,
 };
@@ -61,3 +61,17 @@ pub use startup::{
     DataSegment, ElementSegment, Expressions, GlobalInit, Items, MemoryImage, ModuleStartup, PassiveData, PassiveElements, Region, SegmentOffset,
 };
 pub use types::{CompositeType, FieldType, Fields, HeapType, RefType, StorageType, SubType, TypeIndex, ValType};
+
+unsafe extern "C" {
+    safe fn bobbinazure_version() -> u32;
+}
+
+/// The version of the library, as `10000 * major + 100 * minor + patch`.
+///
+/// ```
+/// let library = bobbinazure::version();
+/// assert_eq!(format!("{}.{}.{}", library / 10000, library / 100 % 100, library % 100), env!("CARGO_PKG_VERSION"));
+/// ```
+pub fn version() -> u32 {
+    bobbinazure_version()
+}

@@ -1,15 +1,24 @@
 //! Where and why a module is refused.
 
 use crate::error::Error;
-use crate::rows::{BrokenRule, Place as PlaceRecord};
+use crate::rows::{BrokenRule as BrokenRuleRecord, Place as PlaceRecord};
 use std::fmt;
 
 unsafe extern "C" {
     fn bobbinazure_locate(bytes: *const u8, len: usize, place: *mut PlaceRecord) -> u32;
-    fn bobbinazure_locate_rule(bytes: *const u8, len: usize, broken: *mut BrokenRule) -> u32;
+    fn bobbinazure_locate_rule(bytes: *const u8, len: usize, broken: *mut BrokenRuleRecord) -> u32;
 }
 
 impl Drop for PlaceRecord {
+    fn drop(&mut self) {
+        if self.made != 0 {
+            // SAFETY: the sentence is in memory of its own, and is this record's alone.
+            unsafe { self.sentence.free() };
+        }
+    }
+}
+
+impl Drop for BrokenRuleRecord {
     fn drop(&mut self) {
         if self.made != 0 {
             // SAFETY: the sentence is in memory of its own, and is this record's alone.
@@ -80,8 +89,33 @@ fn place(record: &PlaceRecord) -> Place {
     }
 }
 
-/// Says which rule a module breaks, and which entry is the first to break it; `None` where the bytes are not read as a
-/// module, and where it keeps the rules. For modules that were refused as invalid.
+/// The first rule that a module breaks, where and why. It displays the offset and a sentence.
+#[derive(Clone, Debug, PartialEq, Eq, Hash)]
+pub struct BrokenRule {
+    /// The rule, from 1 to 10.
+    pub rule: u32,
+    /// The list that has the entry, from [`numbers::IN_TYPES`](crate::numbers::IN_TYPES) on.
+    pub list: u32,
+    /// The index of the entry in that list, from 0 on.
+    pub entry: u32,
+    /// The id of the section that has it: of an import, the import section.
+    pub section: u32,
+    /// The entry of that section, from 0 on: of a type, its group. 0 in a start or data count section.
+    pub section_entry: u32,
+    /// The offset at which the section's entry begins.
+    pub byte: u32,
+    /// The section, the entry, and what is wrong, for people.
+    pub sentence: String,
+}
+
+impl fmt::Display for BrokenRule {
+    fn fmt(&self, f: &mut fmt::Formatter<'_>) -> fmt::Result {
+        write!(f, "byte {}, {}", self.byte, self.sentence)
+    }
+}
+
+/// Says which rule a module breaks, where and why; `None` where the bytes are not read as a module, and where it keeps
+/// the rules. For modules that were refused as invalid.
 ///
 /// # Errors
 /// No memory.
@@ -90,14 +124,27 @@ fn place(record: &PlaceRecord) -> Place {
 /// let module = b"\0asm\x01\0\0\0\x05\x06\x02\x00\x01\x01\x03\x02"; // the second memory has a maximum below its minimum
 /// let broken = bobbinazure::locate_rule(module)?.expect("it breaks a rule");
 /// assert_eq!((broken.rule, broken.list, broken.entry), (4, bobbinazure::numbers::IN_MEMORIES, 1));
+/// assert_eq!((broken.section, broken.section_entry, broken.byte), (5, 1, 13));
 /// # Ok::<(), bobbinazure::Error>(())
 /// ```
 pub fn locate_rule(bytes: &[u8]) -> Result<Option<BrokenRule>, Error> {
-    let mut broken = BrokenRule::default();
+    let mut record = BrokenRuleRecord::default();
     // SAFETY: the pointers are those of borrowed values, and the record is one.
-    match unsafe { bobbinazure_locate_rule(bytes.as_ptr(), bytes.len(), &mut broken) } {
+    match unsafe { bobbinazure_locate_rule(bytes.as_ptr(), bytes.len(), &mut record) } {
         0 => Ok(None),
-        1 => Ok(Some(broken)),
+        1 => Ok(Some(broken_rule(&record))),
         _ => Err(Error::OutOfMemory),
+    }
+}
+
+fn broken_rule(record: &BrokenRuleRecord) -> BrokenRule {
+    BrokenRule {
+        rule: record.rule,
+        list: record.list,
+        entry: record.entry,
+        section: record.section,
+        section_entry: record.section_entry,
+        byte: record.byte,
+        sentence: String::from_utf8_lossy(record.sentence.as_slice()).into_owned(),
     }
 }

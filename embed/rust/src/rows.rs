@@ -709,7 +709,7 @@ pub struct Place {
 
 /// The first rule that a module breaks, and the first entry that breaks it.
 #[repr(C)]
-#[derive(Clone, Copy, Debug, PartialEq, Eq, Hash, Default)]
+#[derive(Default)]
 pub struct BrokenRule {
     /// The rule, from 1 to 10.
     pub rule: u32,
@@ -717,6 +717,16 @@ pub struct BrokenRule {
     pub list: u32,
     /// The index of the entry in that list, from 0 on.
     pub entry: u32,
+    /// The id of the section that has it: of an import, the import section.
+    pub section: u32,
+    /// The entry of that section, from 0 on: of a type, its group. 0 in a start or data count section.
+    pub section_entry: u32,
+    /// The offset at which the section's entry begins.
+    pub byte: u32,
+    /// A sentence for people, in UTF-8, without a zero at the end.
+    pub(crate) sentence: List<u8>,
+    /// Whether the sentence is in memory of its own, which `bobbinazure_broken_rule_free` frees.
+    pub made: u32,
 }
 
 /// A section of a module. Offsets count the bytes of the module, from 0 on.
