@@ -23,6 +23,22 @@ CALL(page_text_free)(bobbinazure_text *text) {
     bobbinazure_text_free(text);
 }
 
+CALL(page_place_init)(bobbinazure_place *place) {
+    *place = bobbinazure_place_init();
+}
+
+CALL(page_place_free)(bobbinazure_place *place) {
+    bobbinazure_place_free(place);
+}
+
+CALL(page_broken_rule_init)(bobbinazure_broken_rule *broken) {
+    *broken = bobbinazure_broken_rule_init();
+}
+
+CALL(page_broken_rule_free)(bobbinazure_broken_rule *broken) {
+    bobbinazure_broken_rule_free(broken);
+}
+
 CALL(page_link_record_init)(bobbinazure_link_record *links) {
     *links = bobbinazure_link_init();
 }

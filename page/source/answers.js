@@ -102,14 +102,14 @@ function refusalCard(plan) {
     el("p", {}, el("b", {}, "What: "), `${reasonOf(refusal)}.`),
     el("p", {}, el("b", {}, "Where: "), ...wherePart(plan, refusal.place)),
     file ? el("p", {}, el("b", {}, "Why: "), `${file}. ${help}`) : null,
-    el("p", { class: "soft small" }, "The planner says what, and that is proved. The page’s script finds where and why."),
+    el("p", { class: "soft small" }, "The planner says what and where, and that is proved. The page’s script finds why."),
   );
 }
 
 function wherePart(plan, place) {
-  if (!place) return ["the page’s script finds no single byte for it."];
-  const { at, what, section } = place, title = section?.title ? ` “${section.title}”` : "";
+  if (!place) return ["the planner names no single byte for it."];
+  const { at, sentence, section } = place, title = section?.title ? ` “${section.title}”` : "";
   const where = section ? `, in the ${section.name} section (${section.id})${title}` : "";
   const show = () => showBytes(plan, { of: "module", title: `byte ${spoken(at)} of ${plan.summary.name}`, base: 0, marked: { from: at, to: at + 1 } });
-  return [`byte ${spoken(at)} (0x${hexOf(at)})${where}: ${what}. `, button("Show bytes", show)];
+  return [`byte ${spoken(at)} (0x${hexOf(at)})${where}: ${sentence}. `, button("Show bytes", show)];
 }

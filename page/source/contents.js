@@ -51,11 +51,11 @@ class Contents {
   bytes = {
     sections: index => this.sectionBytes(index),
     customs: index => this.sectionBytes(this.customSections[index]),
-    imports: index => this.places.spanOf(this.places.importStarts, index, 2),
-    exports: index => this.places.spanOf(this.places.exportStarts, index, 7),
+    imports: index => this.places.spanOf(2, index),
+    exports: index => this.places.spanOf(7, index),
     functions: index => (index < this.plan.entities.imported_functions ? this.ofImport(0, index) : this.bodies.body(index - this.plan.entities.imported_functions)),
-    globals: index => (index < this.plan.entities.imported_globals ? this.ofImport(3, index) : this.spanAmong(this.places.globals, index, 6)),
-    elements: index => this.spanAmong(this.places.elements, index, 9),
+    globals: index => (index < this.plan.entities.imported_globals ? this.ofImport(3, index) : this.places.spanOf(6, index - this.plan.entities.imported_globals)),
+    elements: index => this.places.spanOf(9, index),
     data: index => ({ from: this.places.data[index].begin, to: this.places.data[index].begin + this.places.data[index].length }),
   };
 
@@ -67,10 +67,6 @@ class Contents {
 
   ofImport(kind, index) {
     return { ...this.bytes.imports(this.told.externals.importOf(kind, index)), isElsewhere: true };
-  }
-
-  spanAmong(items, index, id) {
-    return { from: items[index].at, to: items[index + 1]?.at ?? this.places.section(id).to };
   }
 
   sections(index) {
@@ -125,8 +121,8 @@ class Contents {
   }
 
   data(index) {
-    const { memory, constant, length, begin } = this.places.data[index];
-    const place = memory === null ? null : constant === null ? this.expressedPlace(index) : placeOfConstant(constant);
+    const { memory, address, length, begin } = this.places.data[index];
+    const place = memory === null ? null : addressAt(this.module, address) ?? this.expressedPlace(index);
     return { memory, place, full: countFull(this.module, begin, begin + length), preview: this.module.slice(begin, begin + Math.min(length, PREVIEW)) };
   }
 

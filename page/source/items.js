@@ -18,9 +18,10 @@ class Items {
   }
 
   segment(index) {
-    const { isActive, isDeclared, table, constant, count } = this.places.elements[index], source = this.source(index);
+    const { isActive, isDeclared, table, address, count } = this.places.elements[index], source = this.source(index);
     const told = source && source.list.rows.get(source.row), isKept = isActive && source !== null;
-    const place = !isActive ? null : constant !== null ? placeOfConstant(constant) : isKept ? expressionWords(this.plan.element_places, source.row, this.numbers) : "an expression";
+    const expressed = () => (isKept ? expressionWords(this.plan.element_places, source.row, this.numbers) : "an expression");
+    const place = isActive ? addressAt(this.module, address) ?? expressed() : null;
     return {
       use: isActive ? (isKept ? "startup writes it" : "part of an image") : isDeclared ? "declared" : "passive", table, place,
       type: told ? valueWords(told.element, this.numbers) : null, count: told ? told.functions.len + told.expressions.len : count, isOfPlanner: told !== null,
@@ -48,7 +49,7 @@ class Items {
   // An item that is an expression: of those that become images there are two kinds.
   readExpressed(cursor) {
     const code = this.module[cursor.at], from = cursor.at;
-    readExpression(cursor, this.places, "ref", this.places.globals.length);
+    overExpression(cursor);
     if (code === 0xd0) return "null";
     const inside = new Cursor(this.module, from + 1), index = code === 0xd2 ? inside.count() : null;
     return index !== null && inside.at + 1 === cursor.at ? index : "an expression";

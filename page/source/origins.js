@@ -44,8 +44,8 @@ class Origins {
   }
 
   // An item of a section: its index there and its bytes.
-  item(label, id, starts, index) {
-    return { label, text: `number ${spoken(index)} of the ${SECTIONS[id]} section (${id})`, bytes: this.places.spanOf(starts, index, id) };
+  item(label, id, index) {
+    return { label, text: `number ${spoken(index)} of the ${SECTIONS[id]} section (${id})`, bytes: this.places.spanOf(id, index) };
   }
 
   region(number) {
@@ -66,7 +66,7 @@ class Origins {
     const { told, plan } = this, group = told.groupOf[index], { begin, end } = plan.groups.get(group), facts = [];
     facts.push({ label: "type", text: told.typeWords(index) });
     facts.push({ label: "group", text: end - begin === 1 ? `group ${spoken(group)}, alone` : `group ${spoken(group)}, types ${spoken(begin)} to ${spoken(end - 1)}` });
-    for (const declared of told.declaredOf.slice(index, 0, MOST)) facts.push(this.item(`declared as ${spoken(declared)}`, 1, this.places.typeStarts, declared));
+    for (const declared of told.declaredOf.slice(index, 0, MOST)) facts.push(this.item(`declared as ${spoken(declared)}`, 1, declared));
     const equal = told.declaredOf.count(index);
     if (equal > MOST) facts.push({ label: "and", text: `${spoken(equal - MOST)} more of the type section, all equal to it` });
     if (equal === 0) facts.push({ label: "declared", text: "nowhere: the planner added it, for calls from outside, for an exception or for the start" });
@@ -96,12 +96,7 @@ class Origins {
   }
 
   dataItem(index) {
-    return this.item(`data segment ${spoken(index)}`, 11, this.dataStarts(), index);
-  }
-
-  dataStarts() {
-    this.starts ??= this.places.data.map(segment => segment.at);
-    return this.starts;
+    return this.item(`data segment ${spoken(index)}`, 11, index);
   }
 
   image(index) {
@@ -109,8 +104,8 @@ class Origins {
     facts.push({ label: "begins as", text: `${count(length, "byte")} of memory ${spoken(row.memory)} at ${spoken(row.offset)}` });
     const sources = this.told.activeData.filter(i => this.places.data[i].memory === row.memory && this.places.data[i].length > 0);
     for (const source of sources.slice(0, MOST)) {
-      const { constant, length: bytes } = this.places.data[source];
-      facts.push({ ...this.dataItem(source), text: `${count(bytes, "byte")} at ${placeOfConstant(constant)}, number ${spoken(source)} of the data section (11)` });
+      const { address, length: bytes } = this.places.data[source];
+      facts.push({ ...this.dataItem(source), text: `${count(bytes, "byte")} at ${addressAt(this.places.bytes, address) ?? "an expression"}, number ${spoken(source)} of the data section (11)` });
     }
     if (sources.length > MOST) facts.push({ label: "and", text: `${count(sources.length - MOST, "more data segment")}; where two overlap the later one wins` });
     facts.push(this.section(11));
@@ -128,20 +123,15 @@ class Origins {
   elements(index) {
     const row = this.plan.elements.get(index), source = this.told.activeElements[this.told.activeElements.length - this.plan.elements.length + index];
     const facts = [{ label: "writes", text: `${count(row.count, "element")} to table ${spoken(row.table)}` }];
-    if (source !== undefined) facts.push(this.item(`element segment ${spoken(source)}`, 9, this.elementStarts(), source));
+    if (source !== undefined) facts.push(this.item(`element segment ${spoken(source)}`, 9, source));
     return { title: `element segment ${spoken(source ?? index)}`, facts: [...facts, this.section(9), ...this.line("element", index)] };
-  }
-
-  elementStarts() {
-    return this.places.elements.map(element => element.at);
   }
 
   table(index) {
     const own = index - this.plan.entities.imported_tables, facts = [], taken = this.told.activeElements.slice(0, this.told.activeElements.length - this.plan.elements.length);
-    const starts = this.places.tables.slice(this.plan.entities.imported_tables).map(table => table.at);
-    facts.push(own < 0 ? { label: "index", text: `${spoken(index)}, imported` } : this.item(`table ${spoken(index)}`, 4, starts, own));
+    facts.push(own < 0 ? { label: "index", text: `${spoken(index)}, imported` } : this.item(`table ${spoken(index)}`, 4, own));
     const sources = taken.filter(i => this.places.elements[i].table === index);
-    for (const source of sources.slice(0, MOST)) facts.push(this.item(`element segment ${spoken(source)}`, 9, this.elementStarts(), source));
+    for (const source of sources.slice(0, MOST)) facts.push(this.item(`element segment ${spoken(source)}`, 9, source));
     if (sources.length > MOST) facts.push({ label: "and", text: count(sources.length - MOST, "more element segment") });
     facts.push(this.section(own < 0 ? 2 : 4));
     let before = 0;
@@ -157,14 +147,14 @@ class Origins {
   }
 
   import(number) {
-    const { from, name, kind, index, type } = this.told.externals.import(number), { importStarts } = this.places;
-    const facts = [{ label: "names", text: `“${from}” “${name}”` }, ...entityFacts(kind, index, type), this.item(`import ${spoken(number)}`, 2, importStarts, number), this.section(2)];
+    const { from, name, kind, index, type } = this.told.externals.import(number);
+    const facts = [{ label: "names", text: `“${from}” “${name}”` }, ...entityFacts(kind, index, type), this.item(`import ${spoken(number)}`, 2, number), this.section(2)];
     return { title: `import ${spoken(number)}`, facts: [...facts, ...this.line("import", number)] };
   }
 
   export(number) {
-    const { name, kind, index, type } = this.told.externals.export(number), { exportStarts } = this.places;
-    const facts = [{ label: "name", text: `“${name}”` }, ...entityFacts(kind, index, type), this.item(`export ${spoken(number)}`, 7, exportStarts, number), this.section(7)];
+    const { name, kind, index, type } = this.told.externals.export(number);
+    const facts = [{ label: "name", text: `“${name}”` }, ...entityFacts(kind, index, type), this.item(`export ${spoken(number)}`, 7, number), this.section(7)];
     return { title: `export ${spoken(number)}`, facts: [...facts, ...this.line("export", number)] };
   }
 
@@ -178,12 +168,6 @@ class Origins {
 // What an import or export is: its index by its kind, and its type.
 function entityFacts(kind, index, type) {
   return [{ label: "index", text: `${kind} ${spoken(index)}` }, { label: "type", text: type }];
-}
-
-// A constant as the place that it names: without a sign, of 32 or 64 bits.
-function placeOfConstant(constant) {
-  if (constant === null) return "an expression";
-  return typeof constant === "bigint" ? BigInt.asUintN(64, constant).toLocaleString("en") : (constant >>> 0).toLocaleString("en");
 }
 
 function rangeWords(space, from, to) {

@@ -7,6 +7,9 @@ const WIDTHS = { uint8_t: 1, uint16_t: 2, uint32_t: 4, uint64_t: 8, size_t: 8 };
 const NONE = 2 ** 32 - 1;
 const UNBOUNDED = 2n ** 64n - 1n;
 
+// The calls that say where a module is refused, by the records that they fill.
+const LOCATORS = { place: "bobbinazure_locate", broken_rule: "bobbinazure_locate_rule" };
+
 // A module's memory has no room for what is asked.
 class NoRoom extends Error {}
 
@@ -67,6 +70,15 @@ class Planner {
     this.calls.page_plan_free(BigInt(answer.places.plan));
     this.calls.page_text_free(BigInt(answer.places.text));
     for (const at of [answer.input, ...Object.values(answer.places)]) this.free(at);
+  }
+
+  // Where a module is refused, whose bytes stand here, and why: a record of this kind, or null where the call fills none.
+  locate(kind, input, length) {
+    const record = this.begun(kind), status = this.calls[LOCATORS[kind]](...[input, length, record].map(BigInt));
+    const told = this.read(kind, record), place = status === this.layout.numbers.refused ? { ...told, sentence: told.sentence.text } : null;
+    this.calls[`page_${kind}_free`](BigInt(record));
+    this.free(record);
+    return place;
   }
 
   // What each import of one module is given by the exports of another, which stand under the name of a module.

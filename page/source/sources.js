@@ -30,7 +30,7 @@ class Sources extends Origins {
     const facts = [{ label: "name", text: name === null ? "none" : from === "name section" ? `${name}, by the name section` : name }];
     if (readable !== null) facts.push({ label: "in the source", text: readable });
     facts.push({ label: "type", text: `type ${spoken(plan.functions.get(index))}: ${told.externals.function(index)}` });
-    if (own < 0) facts.push(this.item(`import ${spoken(told.externals.importOf(0, index))}`, 2, this.places.importStarts, told.externals.importOf(0, index)));
+    if (own < 0) facts.push(this.item(`import ${spoken(told.externals.importOf(0, index))}`, 2, told.externals.importOf(0, index)));
     else {
       facts.push(...this.bodyFacts(own, bodies.body(own)));
     }

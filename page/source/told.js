@@ -2,6 +2,8 @@
 
 const PREVIEW = 24;
 const FEW = 12;
+// The record that has the place of a refusal, by its kind.
+const RECORDS = { malformed: "place", unsupported: "place", invalid: "broken_rule" };
 
 class Told {
   constructor(planner, name, bytes, options) {
@@ -13,15 +15,23 @@ class Told {
     this.status = this.answer.status;
     this.plan = this.answer.plan;
     this.size = bytes.length;
+    this.isPlanned = this.status === this.numbers.planned;
+    // This may let the planner's memory grow, so it comes before any bytes of that are held.
+    this.located = this.status === this.numbers.refused ? this.locate() : null;
     // The planner's own copy of the module: the one that is given to the page's worker is not kept.
     this.module = planner.bytes(this.answer.input, bytes.length);
-    this.isPlanned = this.status === this.numbers.planned;
+  }
+
+  // Where the planner says that the module is refused, and why; null where that has no single byte.
+  locate() {
+    const record = RECORDS[this.causeOf(this.plan).kind];
+    return record === undefined ? null : this.planner.locate(record, this.answer.input, this.size);
   }
 
   // What takes time besides the plan, in steps that can be told.
   index() {
     this.lines = new Lines(this.status <= this.numbers.refused ? this.answer.text.view : new Uint8Array());
-    this.places = new Places(this.module);
+    this.places = new Places(this.module, this.isPlanned);
     if (this.isPlanned) this.indexPlan();
     this.contents = new Contents(this);
   }
@@ -62,8 +72,13 @@ class Told {
   }
 
   refusal() {
-    const cause = this.causeOf(this.plan);
-    return { ...cause, line: this.lines.line(0), place: this.places.placeOf(cause.kind, cause.rule), file: fileOf(this.module) };
+    return { ...this.causeOf(this.plan), line: this.lines.line(0), place: this.located && this.placeOf(this.located), file: fileOf(this.module) };
+  }
+
+  // The place of a refusal, with the name of its section.
+  placeOf({ byte, sentence, section: id, section_start: start }) {
+    const section = id === NONE ? null : { id, name: SECTIONS[id], title: this.places.sections.find(({ from }) => from === start)?.title };
+    return { at: byte, sentence, section };
   }
 
   // Why a record says that a module is refused.

@@ -36,7 +36,7 @@ function section(text) {
 }
 
 function readBlock(block, before) {
-  const made = { name: "", words: [], bytes: [], lengths: null, status: 0, text: null, has: [], counts: [], data: [], isOfDevices: false };
+  const made = { name: "", words: [], bytes: [], lengths: null, status: 0, at: null, text: null, has: [], counts: [], data: [], isOfDevices: false };
   const push = text => (made.text = (made.text ?? "") + text);
   for (const line of block.split("\n")) {
     if (line === "" || line.startsWith("#")) continue;
@@ -53,6 +53,7 @@ function readBlock(block, before) {
       made.status = 1;
       push(`refused ${rest}\n`);
     } else if (key === "status") made.status = Number(rest);
+    else if (key === "at") made.at = rest;
     else if (key === "text") push(`${rest}\n`);
     else if (key === "cut") push(rest);
     else if (key === "no-text") push("");
@@ -62,7 +63,7 @@ function readBlock(block, before) {
     else if (key === "lines") made.counts.push({ count: Number(first), words: others.join(" ") });
     else if (key === "data") made.data.push({ place: Number(first), bytes: pieces(others.join(" ")) });
     else if (DEVICES.includes(key)) made.isOfDevices = true;
-    else if (!["planned", "at", "reads", "writes", "read"].includes(key)) throw new Error(`a line of no known kind: ${line}`);
+    else if (!["planned", "reads", "writes", "read"].includes(key)) throw new Error(`a line of no known kind: ${line}`);
   }
   return { ...made, bytes: Buffer.concat(made.bytes.map(it => Buffer.from(it))) };
 }
@@ -93,6 +94,13 @@ export function difference(made, { status, text, data }) {
   for (const { count, words } of made.counts) if (lines.filter(line => begins(line, words)).length !== count) return `not ${count} lines of “${words}”`;
   for (const { place, bytes } of made.data) if (Buffer.compare(Buffer.from(data(place)), bytes) !== 0) return `other bytes of runtime data ${place}`;
   return null;
+}
+
+// Where a case says that its bytes are refused: at which byte, and in which entry or in none; or null.
+export function spotOf({ at, bytes }) {
+  if (at === null || at === "none") return null;
+  const [byte, entry = null] = at === "end" ? [bytes.length] : at.split(" entry ").map(Number);
+  return { byte, entry };
 }
 
 // The options of the C interface for words of the command.

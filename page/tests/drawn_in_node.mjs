@@ -1,8 +1,9 @@
 // The checks of what the page draws that need no browser: its script runs in a small document, which has elements and no looks.
 import { readFileSync } from "node:fs";
 import { join } from "node:path";
+import { readModules, spotOf } from "./cases.mjs";
 import { listedModule, manyFunctions, RUST_NAME } from "./listed_module.mjs";
-import { movedData } from "./modules.mjs";
+import { HEADER, movedData, name, section } from "./modules.mjs";
 import { openedPage } from "./small_document.mjs";
 
 const pause = ms => new Promise(done => setTimeout(done, ms));
@@ -51,9 +52,9 @@ class DrawnPage {
   }
 }
 
-export async function checkDrawn({ page, root, compiled, report }) {
-  const opened = more => new DrawnPage(page, compiled, more), given = { opened, root, report };
-  for (const check of [checkFolding, checkLists, checkBytes, checkLegend, checkAgain, checkMoved, checkMany]) {
+export async function checkDrawn({ page, root, told, compiled, report }) {
+  const opened = more => new DrawnPage(page, compiled, more), given = { opened, root, told, report };
+  for (const check of [checkFolding, checkLists, checkBytes, checkRefusal, checkPlaces, checkLegend, checkAgain, checkMoved, checkMany]) {
     try {
       await check(given);
     } catch (error) {
@@ -121,6 +122,31 @@ async function checkBytes({ opened, report }) {
   report("drawn: on a narrow screen eight, with their letters", () => narrow.lines[0] === `${address(at8)}  ${rowOf(at8, 8).join(" ")}  ${letters(at8, 8)}`, narrow.lines.slice(0, 2));
   const lastLines = [wide, narrow].map(it => it.lines.at(-2)), columns = [wide, narrow].map(it => new Set(it.lines.slice(0, -1).map(line => line.length)));
   report("drawn: the letters of a row that is not full stand below the others", () => columns.every((it, i) => [...it].every(length => length <= lastLines[i].length || length === [...it][0])), lastLines);
+}
+
+// A module that is refused: what is said of it, and what its button shows.
+async function checkRefusal({ opened, report }) {
+  const page = opened(), bytes = Buffer.from([...HEADER, 0x09, 0x02, 0x01, 0x08]);
+  await page.take("element.wasm", bytes);
+  const said = page.answer.textContent, where = "byte 11 (0xB), in the element section (9): element section, entry 0: this is no element segment.";
+  report("drawn: a refusal says the byte, the section and the sentence of the planner", () => said.includes(where), [said]);
+  const body = await page.dialog("Show bytes");
+  await page.until(() => body.querySelector("pre") !== null);
+  const marked = body.querySelectorAll("mark").map(it => it.textContent).join("");
+  report("drawn: its button shows that byte", () => marked === "08", [marked]);
+  await page.take("custom.wasm", Buffer.concat([Buffer.from(HEADER), section(0, [name("webidl-bindings")])]));
+  report("drawn: of a custom section it has the name", () => page.answer.textContent.includes("byte 10 (0xA), in the custom section (0) “webidl-bindings”: custom section: "), [page.answer.textContent]);
+}
+
+// Each case that says where its bytes are refused has that byte on the page.
+async function checkPlaces({ opened, root, told, report }) {
+  const card = opened().value("summary => refusalCard({ summary }).textContent"), wrong = [];
+  const cases = readModules(join(root, "crates/plan_cases/data")).filter(made => spotOf(made) !== null);
+  for (const made of cases) {
+    const { byte } = spotOf(made), said = card(told(made.bytes, made.words).summary());
+    if (!said.includes(`Where: byte ${byte.toLocaleString("en")} (0x${byte.toString(16).toUpperCase()})`)) wrong.push(`${made.file}: ${made.name}: not byte ${byte}: ${said}`);
+  }
+  report(`drawn: each of ${cases.length} cases that say where they are refused has that byte`, () => cases.length > 150 && wrong.length === 0, wrong);
 }
 
 // Each first word of the description of the text has its line in the page's legend.

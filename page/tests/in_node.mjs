@@ -7,6 +7,7 @@ import { checkDrawn } from "./drawn_in_node.mjs";
 import { checkImports } from "./imports_in_node.mjs";
 import { checkLists } from "./lists_in_node.mjs";
 import { checkNames } from "./names_in_node.mjs";
+import { BROKEN, checkRefusals } from "./refusals_in_node.mjs";
 import { movedData } from "./modules.mjs";
 import { compile, partsOf } from "./page_parts.mjs";
 
@@ -25,7 +26,7 @@ export async function checkInNode({ page, root, program, report }) {
   checkCases({ told, textOf, ofProgram, root, program, report });
 
   const own = told(parts.planner, ["--cow", "--lazy-tables"], "planner.wasm");
-  report("the planner plans its own module", () => own.isPlanned && own.plan.functions.length === own.places.functions.length && own.plan.declared.length === own.places.types.length);
+  report("the planner plans its own module", () => own.isPlanned && own.plan.functions.length > 100 && placesWrong(own).length === 0);
   if (program) report("its own plan has the text of the program", () => ofProgram(parts.planner, ["--cow", "--lazy-tables"]).stdout.equals(textOf(own)));
 
   checkRecords({ parts, own, report });
@@ -33,14 +34,15 @@ export async function checkInNode({ page, root, program, report }) {
   checkComparison({ parts, told, own, report });
   checkImports({ parts, compiled, told, root, report });
   checkLists({ parts, told, root, report });
+  checkRefusals({ told, root, report });
   checkNames({ parts, report });
-  await checkDrawn({ page, root, compiled, report });
+  await checkDrawn({ page, root, told, compiled, report });
 }
 
 // Each module of plan_cases.
 function checkCases({ told, textOf, ofProgram, root, program, report }) {
   const modules = readModules(join(root, "crates/plan_cases/data"));
-  const wrong = [], others = [], unfound = [];
+  const wrong = [], others = [];
   for (const made of modules) {
     const it = told(made.bytes, made.words), text = textOf(it);
     const differs = difference(made, { status: it.status, text: text.toString(), data: place => it.runtime(place).view });
@@ -49,13 +51,20 @@ function checkCases({ told, textOf, ofProgram, root, program, report }) {
       const run = ofProgram(made.bytes, made.words);
       if (run.status !== it.status || !run.stdout.equals(text)) others.push(`${made.file}: ${made.name}`);
     }
-    const { refusal } = it.summary();
-    if (refusal && !refusal.place && !["too_large", "offset_overflow"].includes(refusal.kind)) unfound.push(`${made.file}: ${made.name}: ${refusal.line}`);
-    if (it.isPlanned && (it.places.stop || it.places.broken.size)) wrong.push(`${made.file}: ${made.name}: planned, and the script finds a fault: ${it.places.stop?.what ?? [...it.places.broken].join()}`);
+    if (it.isPlanned) wrong.push(...placesWrong(it).map(words => `${made.file}: ${made.name}: ${words}`));
   }
   report(`each of the ${modules.length} modules of plan_cases has what its case says`, () => wrong.length === 0, wrong);
   if (program) report(`each of them has the text of ${program}`, () => others.length === 0, others);
-  report("each refusal has its place, where there is one", () => unfound.length === 0, unfound);
+}
+
+// Where the script found more or fewer parts than the planner has, or than a section says.
+function placesWrong({ places, plan }) {
+  const { starts, elements, data } = places, said = id => places.section(id)?.count ?? 0;
+  const counts = {
+    types: [starts[1], plan.declared.length], imports: [starts[2], plan.imports.length], tables: [starts[4], said(4)], globals: [starts[6], said(6)],
+    exports: [starts[7], plan.exports.length], elements: [starts[9], said(9)], "read elements": [elements, said(9)], data: [starts[11], said(11)], "read data": [data, said(11)],
+  };
+  return Object.entries(counts).filter(([, [found, wanted]]) => found.length !== wanted).map(([what, [found, wanted]]) => `${found.length} ${what}, not ${wanted}`);
 }
 
 // Lists against the text, in which each has its lines.
@@ -74,7 +83,12 @@ function checkRecords({ parts, own, report }) {
 // What a run took is free again: a thousand runs in one memory take no more than the first ones.
 function checkHeap({ parts, compiled, report }) {
   const planner = new parts.Planner(compiled, parts.layout), options = optionsOf(["--cow", "--lazy-tables"]), size = () => planner.calls.memory.buffer.byteLength;
-  const runs = count => { for (let i = 0; i < count; i++) planner.drop(planner.make(i % 3 ? parts.linked : parts.overlap.subarray(0, i % 31), options)); };
+  const run = bytes => {
+    const answer = planner.make(bytes, options);
+    for (const record of ["place", "broken_rule"]) planner.locate(record, answer.input, bytes.length);
+    planner.drop(answer);
+  };
+  const runs = count => { for (let i = 0; i < count; i++) run([parts.linked, parts.overlap.subarray(0, i % 31), BROKEN[i % BROKEN.length].bytes][i % 3]); };
   runs(10);
   const before = size();
   runs(1000);
