@@ -7,6 +7,7 @@ import { checkDrawn } from "./drawn_in_node.mjs";
 import { checkImports } from "./imports_in_node.mjs";
 import { checkLists } from "./lists_in_node.mjs";
 import { checkNames } from "./names_in_node.mjs";
+import { checkPlaces } from "./places_in_node.mjs";
 import { BROKEN, checkRefusals } from "./refusals_in_node.mjs";
 import { movedData } from "./modules.mjs";
 import { compile, partsOf } from "./page_parts.mjs";
@@ -34,6 +35,7 @@ export async function checkInNode({ page, root, program, report }) {
   checkComparison({ parts, told, own, report });
   checkImports({ parts, compiled, told, root, report });
   checkLists({ parts, told, root, report });
+  checkPlaces({ told, report });
   checkRefusals({ told, root, report });
   checkNames({ parts, report });
   await checkDrawn({ page, root, told, compiled, report });
@@ -93,6 +95,20 @@ function checkHeap({ parts, compiled, report }) {
   const before = size();
   runs(1000);
   report("a thousand runs in one memory leave it as large as the first ten", () => size() === before, [`${before} bytes, then ${size()}`]);
+  checkGrown({ parts, compiled, options, report });
+}
+
+// A memory that grows has another buffer, and what was held of the old one is gone.
+function checkGrown({ parts, compiled, options, report }) {
+  const Growing = class extends parts.Planner {
+    locate(...words) {
+      this.free(this.room(2 ** 26));
+      return super.locate(...words);
+    }
+  };
+  const [{ bytes }] = BROKEN, it = new parts.Told(new Growing(compiled, parts.layout), "", bytes, options);
+  it.index();
+  report("a refused module is there, though its place let the memory grow", () => bytes.equals(it.bytesOf("module", 0, 0, bytes.length).bytes) && it.contents.counts().sections === 1);
 }
 
 function checkComparison({ parts, told, own, report }) {

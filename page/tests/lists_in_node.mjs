@@ -112,7 +112,10 @@ function checkBroken({ told, linesOf, same }) {
   same("a module that is refused has the list of its sections", found(of), [1, { sections: 5, customs: 0 }, places.sections.slice(0, 5)]);
   const [from, to] = places.sections[3], cut = told(bytes.subarray(0, to - 1), WORDS), [last] = linesOf(cut, "sections").slice(3);
   same("a section that is cut off goes to the end of the file", [...found(cut)[2].slice(0, 3), spanOf(last), last.isCut], [...places.sections.slice(0, 3), [from, to - 1], true]);
-  same("what is no module has no lists", told(Buffer.from("(module)"), WORDS).contents.counts(), { sections: 0, customs: 0 });
+  const [begin] = places.sections.at(-1), [custom] = linesOf(told(bytes.subarray(0, begin + 4), WORDS), "sections").slice(-1);
+  same("a name that is cut off is none", [custom.title, custom.isCut], [null, true]);
+  const others = [Buffer.from("(module (memory 1))"), Buffer.from("0061736d0d0001000000", "hex")];
+  same("what is no module has no lists", others.map(it => told(it, WORDS).contents.counts()), others.map(() => ({ sections: 0, customs: 0 })));
 }
 
 function checkMany({ told, linesOf, report }) {
