@@ -62,10 +62,10 @@ function factParts(plan, { text, bytes, line }) {
 const SHOWN_BYTES = 512;
 const bytesInRow = () => (matchMedia("(max-width: 560px)").matches ? 8 : 16);
 
-// Bytes in rows. `base` is the address of the first; `marked` are the bytes that are meant.
+// Bytes in rows. `base` is the address of the first; `marked` are the bytes that are meant. Where these come behind the last one, that is shown.
 async function showBytes(plan, { of, index = 0, title, base, marked = null }) {
-  const inRow = bytesInRow(), rowOf = place => place - (((place % inRow) + inRow) % inRow), begin = marked ? rowOf(marked.from) : 0;
-  const { length, next } = await plan.ask("bytes", { of, index, from: 0, to: 0 });
+  const inRow = bytesInRow(), rowOf = place => place - (((place % inRow) + inRow) % inRow);
+  const { length, next } = await plan.ask("bytes", { of, index, from: 0, to: 0 }), begin = marked ? rowOf(Math.min(marked.from, length - 1)) : 0;
   let following = next;
   const paging = new Paging({
     label: title, unit: "byte", count: length, size: SHOWN_BYTES,

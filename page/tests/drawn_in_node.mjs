@@ -134,6 +134,11 @@ async function checkRefusal({ opened, report }) {
   await page.until(() => body.querySelector("pre") !== null);
   const marked = body.querySelectorAll("mark").map(it => it.textContent).join("");
   report("drawn: its button shows that byte", () => marked === "08", [marked]);
+  await page.take("cut.wasm", Buffer.from([...HEADER, 0x09, 0x0f, 0x01, 0x01, 0x00, 0x01, 0x00, 0x00]));
+  const isAtEnd = page.answer.textContent.includes("byte 16 (0x10), in the element section (9): "), end = await page.dialog("Show bytes");
+  await page.until(() => page.byId("dialog-title").textContent === "byte 16 of cut.wasm" && end.querySelector("pre") !== null);
+  const rows = end.querySelector("pre").textContent;
+  report("drawn: where a module ends too early, its last bytes are shown", () => isAtEnd && rows.startsWith("00000000  00 61 73 6D "), [rows]);
   await page.take("custom.wasm", Buffer.concat([Buffer.from(HEADER), section(0, [name("webidl-bindings")])]));
   report("drawn: of a custom section it has the name", () => page.answer.textContent.includes("byte 10 (0xA), in the custom section (0) “webidl-bindings”: custom section: "), [page.answer.textContent]);
 }
