@@ -12,3 +12,4 @@ pub mod Referring
 pub mod Lacking
 pub mod Earlier
 pub mod MemberFaults
+pub mod WorkedEntries

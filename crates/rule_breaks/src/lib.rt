@@ -12,11 +12,22 @@
 //! }
 //! ```
 //!
+//! `locate_broken_rule` takes bytes, and says where in them the entry begins: `section_entry` is the
+//! entry of a section that has the entry of the list, and `byte` its offset. Of an index space, the
+//! imports come first, so an entry of it is one of the import section, or of the section that
+//! defines the others. A type is in a recursion group, which is the entry of the type section.
+//!
+//! ```
+//! if let Some(broken) = locate_broken_rule(alloc, bytes)? {
+//!     // such as memory 1, entry 0 of the memory section, at byte 19
+//! }
+//! ```
+//!
 //! Types are numbered and lists gathered again, and the lists of one rule searched once. Modules
 //! that are accepted are not searched.
 //!
 //! Read on: `forms`, `breaks`, then the file of each rule, such as `limits`; `specs/Breaks.antt`
-//! says which entry is the first.
+//! says which entry is the first, and `specs/SectionEntries.antt` which entry of a section has it.
 #![tactic(auto)]
 
 mod breaks;
@@ -58,4 +69,4 @@ pub use faults::{fault_of_break, rule_fault};
 pub use forms::locate_break;
 pub use lists::{Break, ModuleList};
 pub use refused::{BrokenRule, locate_broken_rule};
-pub use worked::worked_breaks;
+pub use worked::{worked_breaks, worked_section_entries};

@@ -1,4 +1,4 @@
-use Rattle.std.proofs.Common.{◌<◌, ◌≤◌, [], ◌∷◌, refl, arith, inr}
+use Rattle.std.proofs.Common.{◌<◌, [], ◌∷◌, refl, arith, inr}
 use Rattle.std.proofs.lemmas.List.Elements.{All-nil, All-cons, All-head, All-tail}
 use Rattle.rule_spec.specs.Lists.{lists_of_module}
 use Rattle.rule_spec.specs.Limits.{HasLimits, IsOrdered}
@@ -6,13 +6,8 @@ use Rattle.rule_spec.specs.Indices.{IsInSpace}
 use Rattle.rule_spec.specs.Worked.{exported_twice, memory_as_a}
 use Rattle.rule_spec.specs.WorkedKept.{one_page}
 use Rattle.rule_breaks.specs.Worked.{narrow}
+use Rattle.rule_breaks.proofs.WorkedEntries.{page_kept, narrow_breaks}
 use Rattle.rule_breaks.proofs.worked.worked_breaks.Goals as goal
-
-page_kept : HasLimits one_page
-page_kept = record { ordered = tt; page_size = tt; initial_fits = omega arith; maximum_fits = tt; bounded = λ shared. absurd cc }
-
-narrow_breaks : HasLimits narrow → ⊥
-narrow_breaks limits = let ordered : 2 ≤ 1 = limits.ordered in absurd (omega (arith, ordered))
 
 pub returns-clause-memory : goal.returns-clause-memory
 returns-clause-memory c = (
