@@ -126,4 +126,5 @@ narrow_is_first = record {
   );
   section_entry = inr (refl, refl);
   byte = begins;
+  fault = (refl, refl, omega arith);
 }

@@ -11,6 +11,7 @@ use Rattle.rule_spec.specs.Worked.{alone, nothing_to_nothing}
 use Rattle.rule_spec.specs.WorkedKept.{one_page}
 use Rattle.refusal_place.specs.declared.kind.SectionKind.TheVariants as kind
 use Rattle.rule_breaks.specs.declared.lists.ModuleList.TheVariants as list
+use Rattle.rule_breaks.specs.declared.fault.RuleFault.TheVariants as fault
 use Rattle.rule_breaks.specs.declared.refused.BrokenRule.{BrokenRule}
 
 -- a memory whose maximum is below the minimum
@@ -32,9 +33,16 @@ narrow_section = 0x05 ∷ 0x04 ∷ 0x01 ∷ 0x01 ∷ 0x02 ∷ 0x01 ∷ []
 abbrev pub imported_and_narrow_bytes : List ℕ
 imported_and_narrow_bytes = header ++ 0x02 ∷ 0x06 ∷ 0x01 ∷ 0x00 ∷ 0x00 ∷ 0x02 ∷ 0x00 ∷ 0x01 ∷ narrow_section
 
--- memory 1 breaks L4: it is entry 0 of the memory section, at byte 19
+-- memory 1 breaks L4: it is entry 0 of the memory section, at byte 19, and its maximum is 1
 abbrev pub narrow_is_broken : BrokenRule
-narrow_is_broken = record { rule = rule.L4; place = record { list = list.Memories; entry = 1 }; section = kind.Memory; section_entry = 0; byte = 19 }
+narrow_is_broken = record {
+  rule = rule.L4;
+  place = record { list = list.Memories; entry = 1 };
+  section = kind.Memory;
+  section_entry = 0;
+  byte = 19;
+  fault = fault.MaximumBelowMinimum 2 1;
+}
 
 -- a group of two types, and a group of one
 abbrev pub two_and_one : List (Group UnpackedIndex UnpackedIndex)

@@ -12,14 +12,16 @@
 //! }
 //! ```
 //!
-//! `locate_broken_rule` takes bytes, and says where in them the entry begins: `section_entry` is the
-//! entry of a section that has the entry of the list, and `byte` its offset. Of an index space, the
-//! imports come first, so an entry of it is one of the import section, or of the section that
-//! defines the others. A type is in a recursion group, which is the entry of the type section.
+//! `locate_broken_rule` takes bytes, and says where in them the entry begins, and what is wrong with
+//! it: `section_entry` is the entry of a section that has the entry of the list, and `byte` its
+//! offset. Of an index space, the imports come first, so an entry of it is one of the import
+//! section, or of the section that defines the others. A type is in a recursion group, which is the
+//! entry of the type section.
 //!
 //! ```
 //! if let Some(broken) = locate_broken_rule(alloc, bytes)? {
-//!     // such as memory 1, entry 0 of the memory section, at byte 19
+//!     println!(rt; "byte {}: {broken}", broken.byte)?;
+//!     // byte 19: memory section, entry 0: the maximum 1 is below the minimum 2
 //! }
 //! ```
 //!
