@@ -72,12 +72,13 @@ fn section_at<'d>(rest: &'d [u8], start: usize) -> Result<Option<SectionPlace<'d
         return Ok(None);
     };
     let offset = start + 1 + (sized.len() - cursor.rest.len());
+    let name = custom_name(*id, contents)?;
     Ok(Some(SectionPlace {
         id: *id,
         start: start as u32,
         contents: offset as u32,
         size,
-        name: custom_name(*id, contents)?,
+        name,
     }))
 }
 

@@ -23,5 +23,5 @@ pub returns : goal.returns
 returns c =
     let read = rw c.in-Some.is at c.in_ok-size.ensures in
     let found = c.in-Some-get.ensures.lookup.0 in
-    let named = subst (λ l. HasName (id_in c.args.rest.now) l (option_map (λ text. text.now) c.in_ok-custom_name.field-0)) (found.2 ∙ range_front c.in-Some.size c.read_number.new.cursor.rest.now) c.in_ok-custom_name.ensures in
+    let named = subst (λ l. HasName (id_in c.args.rest.now) l (option_map (λ text. text.now) c.in_ok-name.name)) (found.2 ∙ range_front c.in-Some.size c.read_number.new.cursor.rest.now) c.in_ok-name.ensures in
     (_, is_section c.args.rest.now c.in-len1-up.len_at_least c.in-Some.size c.read_number.new.cursor.rest.now read c.args.start _ found.1 refl refl refl refl named)
