@@ -110,6 +110,8 @@ function wherePart(plan, place) {
   if (!place) return ["the planner names no single byte for it."];
   const { at, sentence, section } = place, title = section?.title ? ` “${section.title}”` : "";
   const where = section ? `, in the ${section.name} section (${section.id})${title}` : "";
+  // The planner's sentence names the section first.
+  const what = section ? sentence.replace(`${section.name} section`, "") : `: ${sentence}`;
   const show = () => showBytes(plan, { of: "module", title: `byte ${spoken(at)} of ${plan.summary.name}`, base: 0, marked: { from: at, to: at + 1 } });
-  return [`byte ${spoken(at)} (0x${hexOf(at)})${where}: ${sentence}. `, button("Show bytes", show)];
+  return [`byte ${spoken(at)} (0x${hexOf(at)})${where}${what}. `, button("Show bytes", show)];
 }
