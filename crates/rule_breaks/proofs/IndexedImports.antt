@@ -13,7 +13,7 @@ use Rattle.wasm_spec.specs.Module.{Import, Module, imported_of}
 use Rattle.refusal_place.specs.declared.kind.SectionKind.{SectionKind}
 use Rattle.rule_breaks.specs.declared.section_entries.SectionEntry.{SectionEntry}
 use Rattle.rule_breaks.specs.ImportKinds.{is_import_of, imported_count, IsIndexed}
-use Rattle.rule_breaks.specs.SectionEntries.{IsInSpace}
+use Rattle.rule_breaks.specs.SectionEntries.{IsInIndexSpace}
 
 abbrev is_some : {A : Type 0} → Option A → Bool
 is_some (Some x) = true
@@ -51,7 +51,7 @@ module _ {A : Type 0} (of : TypeRef → Option A) (k : ExternalKind) (same : (t 
         counted,
       )
 
-  in_space : (defining section : SectionKind) (m : Module) (n e : ℕ) → IsIndexed k defining (plain.imports m) n section e → IsInSpace of defining m n section e
+  in_space : (defining section : SectionKind) (m : Module) (n e : ℕ) → IsIndexed k defining (plain.imports m) n section e → IsInIndexSpace of defining m n section e
   in_space defining section m n e (inl (is, u)) =
       let some = some_is (of u.import.type) (sym (same u.import.type) ∙ u.is_of_kind) in
       let counted = sym (counts_alike (take e (plain.imports m))) ∙ u.before in
@@ -64,7 +64,7 @@ module _ {A : Type 0} (of : TypeRef → Option A) (k : ExternalKind) (same : (t 
 
   -- the same of what a function returned
   pub indexed_in_space : {E : Type 0} (defining : SectionKind) (m : Module) (n : ℕ) (r : Result SectionEntry E)
-      → IfOk r (λ e. IsIndexed k defining (plain.imports m) n e.section e.entry) → IfOk r (λ e. IsInSpace of defining m n e.section e.entry)
+      → IfOk r (λ e. IsIndexed k defining (plain.imports m) n e.section e.entry) → IfOk r (λ e. IsInIndexSpace of defining m n e.section e.entry)
   indexed_in_space defining m n (Ok e) is = in_space defining e.section m n e.entry is
   indexed_in_space defining m n (Err e) is = tt
 

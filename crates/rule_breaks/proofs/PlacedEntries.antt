@@ -28,7 +28,7 @@ use Rattle.rule_breaks.specs.BrokenAt.{HasSectionEntry, IsBrokenAt}
 use Rattle.rule_breaks.specs.Faults.{IsFaultOf}
 use Rattle.rule_breaks.specs.Refused.{BreaksFirst}
 use Rattle.rule_breaks.specs.Listed.{IsListed}
-use Rattle.rule_breaks.specs.SectionEntries.{IsGroupOf, IsEntryOf, IsInSpace}
+use Rattle.rule_breaks.specs.SectionEntries.{IsGroupOf, IsEntryOf, IsInIndexSpace}
 
 -- ---- the first break of a rule is listed
 
@@ -95,7 +95,7 @@ imported_there m s e is l = rw is l
 -- the entry of an index space is imported, or below the number of those that the section defines
 module _ {A : Type 0} (of : TypeRef → Option A) (defining : SectionKind) (m : Module) (n : ℕ) (s : SectionKind) (e : ℕ) (defined : ℕ)
     (long : n < length (imported_of of m) + defined) (there : e < defined → HasSectionEntry m defining e) where
-  space_there : IsInSpace of defining m n s e → HasSectionEntry m s e
+  space_there : IsInIndexSpace of defining m n s e → HasSectionEntry m s e
   space_there (inl (below, is, u)) = imported_there m s e is (below_length (plain.imports m) e u.import u.stands)
   space_there (inr (is, counted)) =
       let P : SectionKind → Type 0 = λ k. HasSectionEntry m k e in subst P (sym is) (there (omega (arith, counted, long)))

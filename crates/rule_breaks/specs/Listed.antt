@@ -1,10 +1,11 @@
--- What is listed.
+-- Entries of the lists that rules speak of.
 use Rattle.std.specs.Prelude.{ℕ, length, ◌<◌}
 use Rattle.wasm_spec.specs.Module.{Module}
 use Rattle.rule_spec.specs.Lists.{Lists, lists_of_module}
 use Rattle.rule_breaks.specs.declared.lists.ModuleList.{ModuleList}
 use Rattle.rule_breaks.specs.declared.lists.ModuleList.TheVariants as list
 
+-- how many entries a list has
 abbrev pub list_length : Lists → ModuleList → ℕ
 list_length l list.Types = length l.types
 list_length l list.Functions = length l.functions

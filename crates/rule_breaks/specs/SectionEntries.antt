@@ -16,9 +16,9 @@ use Rattle.rule_breaks.specs.declared.lists.ModuleList.TheVariants as list
 
 -- ---- recursion groups
 
--- how many types the first groups have, so many of them
+-- how many types the groups before this one have
 abbrev pub types_before : List (Group UnpackedIndex UnpackedIndex) → ℕ → ℕ
-types_before groups count = length (flat_map (λ group. group) (take count groups))
+types_before groups entry = length (flat_map (λ group. group) (take entry groups))
 
 -- the group has the type with this index
 pub record IsGroupOf (groups : List (Group UnpackedIndex UnpackedIndex)) (index entry : ℕ) : Type 0 where
@@ -37,8 +37,8 @@ pub record IsImportOf {A : Type 0} (of : TypeRef → Option A) (imports : List I
 
 -- the entry is that import, or, past the imports of the kind, the entry of the section that defines
 -- the others
-abbrev pub IsInSpace : {A : Type 0} → (TypeRef → Option A) → SectionKind → Module → ℕ → SectionKind → ℕ → Type 0
-IsInSpace of defining m index section entry =
+abbrev pub IsInIndexSpace : {A : Type 0} → (TypeRef → Option A) → SectionKind → Module → ℕ → SectionKind → ℕ → Type 0
+IsInIndexSpace of defining m index section entry =
     ((index < length (imported_of of m)) × (section ≡ kind.Import) × IsImportOf of (plain.imports m) index entry)
     ⊎ ((section ≡ defining) × (length (imported_of of m) + entry ≡ index))
 
@@ -47,10 +47,10 @@ IsInSpace of defining m index section entry =
 -- the entry of a list is this entry of a section; start and data count sections have one number
 abbrev pub IsEntryOf : Module → ModuleList → ℕ → SectionKind → ℕ → Type 0
 IsEntryOf m list.Types n section entry = (section ≡ kind.Type) × IsGroupOf (plain.groups m) n entry
-IsEntryOf m list.Functions n section entry = IsInSpace plain.function_import kind.Function m n section entry
-IsEntryOf m list.TableTypes n section entry = IsInSpace plain.table_import kind.Table m n section entry
-IsEntryOf m list.Memories n section entry = IsInSpace plain.memory_import kind.Memory m n section entry
-IsEntryOf m list.Tags n section entry = IsInSpace plain.tag_import kind.Tag m n section entry
+IsEntryOf m list.Functions n section entry = IsInIndexSpace plain.function_import kind.Function m n section entry
+IsEntryOf m list.TableTypes n section entry = IsInIndexSpace plain.table_import kind.Table m n section entry
+IsEntryOf m list.Memories n section entry = IsInIndexSpace plain.memory_import kind.Memory m n section entry
+IsEntryOf m list.Tags n section entry = IsInIndexSpace plain.tag_import kind.Tag m n section entry
 IsEntryOf m list.Imports n section entry = (section ≡ kind.Import) × (entry ≡ n)
 IsEntryOf m list.Tables n section entry = (section ≡ kind.Table) × (entry ≡ n)
 IsEntryOf m list.Globals n section entry = (section ≡ kind.Global) × (entry ≡ n)
