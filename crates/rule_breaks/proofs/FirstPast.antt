@@ -1,5 +1,5 @@
 -- Searches for the first index that is not below a bound.
-use Rattle.std.proofs.Common.{◌≡◌, ◌<◌, ◌≤◌, ℕ, List, [], ◌∷◌, ◌++◌, map, Option, Some, None, All, Contains, refl, sym, ap, subst, ◌∙◌, arith}
+use Rattle.std.proofs.Common.{◌≡◌, ◌<◌, ◌≤◌, ℕ, List, [], ◌∷◌, ◌++◌, map, Option, Some, None, All, sym, subst}
 use Rattle.std.specs.Prelude.{option_to_list}
 use Rattle.std.specs.List.{flat_map}
 use Rattle.std.specs.Option.{option_map}

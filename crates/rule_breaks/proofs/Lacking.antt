@@ -1,10 +1,10 @@
 -- What the entry lacks that is the first to break a rule.
-use Rattle.std.proofs.Common.{◌≡◌, ◌≢◌, ◌<◌, ◌≤◌, ◌+◌, ℕ, List, length, map, take, Option, Some, None, Contains, refl, sym, subst, arith, inl, inr}
+use Rattle.std.proofs.Common.{◌≡◌, ◌≢◌, ◌<◌, ◌≤◌, ◌+◌, ℕ, List, length, map, take, Option, Some, None, Contains, refl, arith, inl, inr}
 use Rattle.std.specs.Prelude.{IfSome, IsSomeAnd, slice_get}
 use Rattle.wasm_spec.specs.Module.{Import, TableDef, GlobalDef, Export, Element, Body, Segment}
 use Rattle.rule_spec.specs.declared.rules.Rule.{Rule}
 use Rattle.rule_spec.specs.declared.rules.Rule.TheVariants.{L1, L2, L3, L4, L5, L6, L7, L8, L9, L10}
-use Rattle.rule_spec.specs.Lists.{Lists, Declared}
+use Rattle.rule_spec.specs.Lists.{Lists}
 use Rattle.rule_spec.specs.TypeRules.{IsDeclaredWell, NamesFunctionType}
 use Rattle.rule_spec.specs.Limits.{HasLimits, IsOrdered}
 use Rattle.rule_spec.specs.Indices.{IsInSpace, CanStart}
@@ -14,7 +14,7 @@ use Rattle.form_typing.specs.Globals.{IsGlobalTyped}
 use Rattle.rule_breaks.specs.declared.lists.ModuleList.{ModuleList}
 use Rattle.rule_breaks.specs.declared.lists.ModuleList.TheVariants as list
 use Rattle.rule_breaks.specs.Search.{IsFirstWithout}
-use Rattle.rule_breaks.specs.Breaks.{Counts, HasBodies, IsFirstBodiless, IsFirstUnused, IsFirstUntyped, IsFirstRepeated, IsFirstBreak}
+use Rattle.rule_breaks.specs.Breaks.{Counts, HasBodies, IsFirstBreak}
 use Rattle.rule_breaks.specs.Kept.{TableKeeps, ElementKeeps, SegmentKeeps}
 use Rattle.rule_breaks.specs.FaultKept.{FunctionKeeps, BodyFits, GlobalKeeps, IsExportBroken}
 use Rattle.rule_breaks.specs.Faults.{At}

@@ -1,5 +1,5 @@
 -- Faults of declared types, in the words of the definition.
-use Rattle.std.proofs.Common.{◌≡◌, ◌↔◌, ◌⊎◌, ℕ, ◌+◌, ◌-◌, ◌<◌, ◌≤◌, zero, suc, Bool, true, false, List, [], ◌∷◌, ◌++◌, length, map, Option, Some, None, All, Contains, refl, sym, ap, subst, ◌∙◌, arith, inl, inr}
+use Rattle.std.proofs.Common.{◌≡◌, ◌⊎◌, ℕ, ◌+◌, ◌-◌, ◌<◌, ◌≤◌, zero, suc, Bool, true, false, List, [], ◌∷◌, ◌++◌, length, Option, Some, None, All, Contains, refl, sym, ap, subst, ◌∙◌, arith, inl, inr}
 use Rattle.std.specs.Prelude.{IfSome, option_to_list, slice_get}
 use Rattle.std.proofs.lemmas.List.{length-map}
 use Rattle.std.proofs.lemmas.List.Elements.{All-head, Contains-append_left, Contains-append_right, Contains-push}
@@ -19,7 +19,7 @@ use Rattle.rule_breaks.specs.declared.fault.IndexSpace.TheVariants as space
 use Rattle.rule_breaks.specs.declared.fault.RuleFault.{RuleFault}
 use Rattle.rule_breaks.specs.declared.fault.RuleFault.TheVariants as fault
 use Rattle.rule_breaks.specs.TypeFlags.{function_flags}
-use Rattle.rule_breaks.specs.Faults.{IsNoType, IsTypeFault, IsDeclaredFault}
+use Rattle.rule_breaks.specs.Faults.{IsDeclaredFault}
 use Rattle.rule_breaks.specs.Past.{IsNoEarlier, IsContinuationFault, IsKindFault, IsMemberFault}
 use Rattle.rule_breaks.proofs.Searching.{inside}
 use Rattle.rule_breaks.proofs.DeclaredWell.{flagged, flags-declared}

@@ -1,6 +1,6 @@
 -- Entries whose type indices are all below a bound.
-use Rattle.std.proofs.Common.{ℕ, ◌<◌, List, [], ◌++◌, Option, Some, None, All}
-use Rattle.std.specs.Prelude.{IfSome, option_to_list, length}
+use Rattle.std.proofs.Common.{ℕ, List, [], Option, Some, None, All}
+use Rattle.std.specs.Prelude.{IfSome, option_to_list}
 use Rattle.std.specs.List.{flat_map}
 use Rattle.std.proofs.lemmas.List.Elements.{All-weaker}
 use Rattle.wasm_spec.specs.declared.entities.TypeRef.{TypeRef}
@@ -8,10 +8,9 @@ use Rattle.wasm_spec.specs.declared.entities.TypeRef.TheVariants as imported
 use Rattle.wasm_spec.specs.declared.operators.Operator.{Operator}
 use Rattle.wasm_spec.specs.declared.operators.Operator.TheVariants as op
 use Rattle.wasm_spec.specs.declared.types.ValType.{ValType}
-use Rattle.wasm_spec.specs.declared.types.UnpackedIndex.{UnpackedIndex}
 use Rattle.wasm_spec.specs.Module.{Expression, TableDef, GlobalDef, ElementKind, ActiveElement, ElementItems, Functions, Expressions, Element, Body, DataKind, Passive, Active}
 use Rattle.rule_spec.specs.TypeRules.{IsBelow, HeapIsBelow, ValueIsBelow}
-use Rattle.rule_spec.specs.References.{OperatorRefersIn, ExpressionRefersIn, ImportRefersIn, TableRefersIn, GlobalRefersIn, ElementKindRefersIn, ItemsReferIn, ElementRefersIn, ValueRefersIn, BodyRefersIn, DataKindRefersIn}
+use Rattle.rule_spec.specs.References.{OperatorRefersIn, ExpressionRefersIn, ImportRefersIn, TableRefersIn, GlobalRefersIn, ElementKindRefersIn, ItemsReferIn, ElementRefersIn, BodyRefersIn, DataKindRefersIn}
 use Rattle.form_types.proofs.AllOf.{All-joined, All-parts}
 use Rattle.rule_breaks.specs.Named.{value_types, heap_types, operator_types, expression_types, import_types, table_types, global_types, offset_types, item_types, element_types, body_types, segment_types}
 

@@ -1,5 +1,5 @@
 -- What is wrong with an entry that breaks a rule, with the numbers that were found.
-use Rattle.std.specs.Prelude.{◌≡◌, ◌≢◌, ◌⊎◌, ℕ, ◌+◌, ◌*◌, ◌^◌, ◌<◌, ◌≤◌, false, List, length, Contains, Option, None, Some, IsTrue, IsSomeAnd, slice_get}
+use Rattle.std.specs.Prelude.{◌≡◌, ◌≢◌, ◌⊎◌, ℕ, ◌+◌, ◌*◌, ◌^◌, ◌<◌, ◌≤◌, false, List, length, Contains, None, Some, IsTrue, IsSomeAnd, slice_get}
 use Rattle.wasm_spec.specs.declared.entities.ExternalKind.{ExternalKind}
 use Rattle.wasm_spec.specs.declared.entities.ExternalKind.TheVariants as kind
 use Rattle.wasm_spec.specs.declared.entities.MemoryType.{MemoryType}

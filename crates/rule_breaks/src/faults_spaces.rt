@@ -1,6 +1,6 @@
 //! What is wrong with a function, a tag, a table type, a memory or a start function.
 
-ghost use Rattle.std.specs.Prelude.{◌≡◌, ◌+◌, ◌≤◌, length, IfOk, slice_get};
+ghost use Rattle.std.specs.Prelude.{◌≡◌, ◌≤◌, length, IfOk, slice_get};
 ghost use Rattle.rule_spec.specs.TypeRules.{NamesFunctionType};
 ghost use Rattle.rule_spec.specs.Limits.{HasLimits, IsOrdered};
 ghost use Rattle.rule_spec.specs.Indices.{CanStart};

@@ -12,6 +12,9 @@
 //! }
 //! ```
 //!
+//! `fault_of_break` says what is wrong with that entry, with the numbers that were found. It prints as
+//! a sentence, as `the maximum 1 is below the minimum 2`.
+//!
 //! `locate_broken_rule` takes bytes, and says where in them the entry begins, and what is wrong with
 //! it: `section_entry` is the entry of a section that has the entry of the list, and `byte` its
 //! offset. Of an index space, the imports come first, so an entry of it is one of the import
@@ -29,7 +32,8 @@
 //! that are accepted are not searched.
 //!
 //! Read on: `forms`, `breaks`, then the file of each rule, such as `limits`; `specs/Breaks.antt`
-//! says which entry is the first, and `specs/SectionEntries.antt` which entry of a section has it.
+//! says which entry is the first, `specs/SectionEntries.antt` which entry of a section has it, and
+//! `specs/Faults.antt` what is wrong with it.
 #![tactic(auto)]
 
 mod breaks;
