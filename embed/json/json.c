@@ -3,6 +3,7 @@
  *
  * keys.txt has the keys. The words and the exit status are those of the program dist/translate. */
 #include "layouts.h"
+#include "sections.h"
 #include "values.h"
 
 /* A module of this many bytes is refused as too large. */
@@ -411,23 +412,6 @@ static void put_refusal(const bobbinazure_plan *plan, const uint8_t *module, siz
     put_refused_at(module, len);
     put_broken_rule(module, len);
     close_object();
-}
-
-/* Those of any input, refused or not. */
-static void put_sections(const bobbinazure_section_list *list) {
-    open_list("sections");
-    for (size_t i = 0; i < list->sections.len; i++) {
-        const bobbinazure_section *section = &list->sections.at[i];
-        open_object(0);
-        number("id", section->id);
-        number("start", section->start);
-        number("contents", section->contents);
-        number("size", section->size);
-        if (section->has_name) bytes("name", section->name);
-        else null("name");
-        close_object();
-    }
-    close_list();
 }
 
 static int print_json(const uint8_t *module, size_t len, const bobbinazure_options *options) {
