@@ -27,3 +27,6 @@ returns-in-Some-clause-first c =
     breaks_first c.args.bytes.now (module_of c.in-Ok.form) c.in-Err-Invalid.rule c.in-Some.place c.in_ok-broken_at-in-Some.field-0 c.in-Ok.ensures.read
     c.in-Ok.ensures.no_interface_types (c.in-Err-Invalid.ensures.first c.in-Err-Invalid.rule (ap Err c.in-Err-Invalid.field-0-is))
     (rw c.in-Some.is at c.in_ok-place-in-Err-Invalid.ensures.first) c.in_ok-broken_at-in-Some.ensures
+
+pub broken_at-requires-clause-before : goal.broken_at-requires-clause-before
+broken_at-requires-clause-before c = c.in-Err-Invalid.ensures.first c.in-Err-Invalid.rule (ap Err c.in-Err-Invalid.field-0-is)
