@@ -93,7 +93,7 @@ enum {
 /* How the offset of a segment is given: the field `kind`. */
 enum {
     BOBBINAZURE_AT_BYTE = 0,        /* offset: the offset itself, which the planner computed */
-    BOBBINAZURE_AT_CONSTANT = 1,    /* offset: the bits of the constant, of 32 or 64 bits */
+    BOBBINAZURE_AT_CONSTANT = 1,    /* offset: the bits of the constant; of 32, zeros before them */
     BOBBINAZURE_AT_GLOBAL = 2,      /* offset: the index of the global that holds it */
     BOBBINAZURE_AT_EXPRESSION = 3   /* another one: its operators are in segment_places or element_places */
 };
@@ -272,7 +272,8 @@ typedef struct {
     uint8_t pointer;      /* The bytes of a pointer of the target: 4 or 8. */
     uint8_t collector;    /* How objects are collected: 0 by counts (drc), 1 not at all (null). */
     uint64_t page_size;   /* The page size of images, in bytes: a power of two. */
-    uint64_t max_image;   /* The size from which on an image must be half full of data, in bytes. */
+    /* The size from which on an image must be more than half full of data, in bytes. */
+    uint64_t max_image;
 } bobbinazure_options;
 
 /* How many entities of each kind there are, imported ones among them, and how many are imported. */
@@ -398,9 +399,10 @@ typedef struct {
 
 /* The items of an element segment, of which one of the two lists is empty. */
 typedef struct {
-    bobbinazure_value element;  /* The type of each item, a reference. */
-    bobbinazure_span functions; /* The items that are functions, a part of functions. */
-    /* The items that are constant expressions, a part of the parts of expressions. */
+    bobbinazure_value element; /* The type of each item, a reference. */
+    /* The items that are functions, a part of functions of the same list of items. */
+    bobbinazure_span functions;
+    /* The items that are constant expressions, a part of the parts of its expressions. */
     bobbinazure_span expressions;
 } bobbinazure_items;
 
@@ -440,7 +442,8 @@ typedef struct {
 /* A branch hint. */
 typedef struct {
     uint32_t function; /* The function, by its index. */
-    /* Where the branch is, in bytes from the beginning of the function's body. */
+    /* Where the branch is, in bytes from the beginning of the function's body, which begins with
+       its locals. */
     uint32_t offset;
     uint32_t taken;    /* Whether it is likely to be taken. */
 } bobbinazure_branch_hint;
@@ -699,13 +702,13 @@ typedef struct {
     /* When the startup function runs, from BOBBINAZURE_STARTUP_NONE on: never, always, or where
        a memory does not begin as its image. */
     uint32_t startup;
-    /* The interned type of the startup function; 0 where there is none. */
+    /* The interned type of the startup function; 0 where none runs. */
     uint32_t startup_type;
-    /* Whether memories begin as images. */
+    /* Whether memories begin as images. There may be no image all the same. */
     uint32_t images_made;
     /* How many interned types there are. */
     uint32_t types;
-    /* The alignment of images, in bytes; 0 where there are none. */
+    /* The alignment of images, in bytes; 0 where images_made is 0. */
     uint64_t data_align;
     /* The index of the start function; BOBBINAZURE_NONE where there is none. */
     uint32_t start;
@@ -716,13 +719,13 @@ typedef struct {
     /* Where the contents of the code section begin in the module, in bytes; 0 without a code
        section. */
     uint64_t code_section_offset;
-    /* Where the module begins in the bytes that were read. */
+    /* Where the module begins in the bytes that were read: 0. */
     uint64_t module_offset;
     /* Whether the module has sections of debug information (DWARF), none of which is read. */
     uint32_t has_unparsed_debuginfo;
     /* The bytes of a pointer of the target: 4 or 8. */
     uint32_t pointer;
-    /* Where the parts of the context begin. */
+    /* Where the parts of the context begin. Align a context to 16 bytes. */
     bobbinazure_context context;
     /* The interned type of each type of the type section. */
     BOBBINAZURE_LIST(uint32_t) declared;
@@ -871,7 +874,8 @@ typedef struct {
     uint32_t section_start;
     /* The entry of the section, from 0 on, where an entry is wrong; else BOBBINAZURE_NONE. */
     uint32_t entry;
-    /* Where the wrong entry or part begins; the length of the module where it ends too early. */
+    /* Where the wrong entry or part begins; the length of the module where it ends inside its
+       header or a section. */
     uint32_t byte;
     /* Whatever follows so many of these bytes, it is refused; BOBBINAZURE_NONE where the module
        ends too early. */
@@ -882,7 +886,8 @@ typedef struct {
     uint32_t made;
 } bobbinazure_place;
 
-/* The first rule that a module breaks, and the first entry that breaks it. */
+/* The first rule that a module breaks, and the first entry that breaks it, in the first of the
+   lists of the rule that has one. */
 typedef struct {
     uint32_t rule;              /* The rule, from 1 to 10. */
     /* The list that has the entry: a number from BOBBINAZURE_IN_TYPES on. */
@@ -903,7 +908,8 @@ typedef struct {
 typedef struct {
     uint32_t id;       /* The id; no section of a module has one above 13. */
     uint32_t start;    /* The offset of the section, which begins with its id. */
-    uint32_t contents; /* The offset of its contents. */
+    /* The offset of its contents. Those of a custom section begin with its name. */
+    uint32_t contents;
     uint32_t size;     /* The length of its contents, in bytes. */
     uint32_t has_name; /* Whether it is a custom section, with a name. */
     /* The name, in the bytes of the module; else empty. It is never freed. */

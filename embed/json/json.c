@@ -1,5 +1,5 @@
 /* json plan [OPTION].. < FILE.wasm : prints the plan of a module as one JSON object, out of the tables alone.
- * json locate < FILE.wasm : prints where and why a module is malformed or not supported, as one line.
+ * json locate < FILE.wasm : prints where and why a module is malformed, invalid or not supported, as one line.
  *
  * keys.txt has the keys. The words and the exit status are those of the program dist/translate. */
 #include "layouts.h"

@@ -289,7 +289,7 @@ pub struct PlanRecord<'d> {
     /// How many entities there are.
     pub entities: Entities,
     pub facts: Facts,
-    /// Where the parts of the context begin.
+    /// Where the parts of the context begin. Align a context to 16 bytes.
     pub context: Context,
     pub types: TypesRecord<'d>,
     pub kinds: KindsRecord<'d>,

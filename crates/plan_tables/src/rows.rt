@@ -38,13 +38,13 @@ pub struct Facts {
     /// When the startup function runs, from `BOBBINAZURE_STARTUP_NONE` on: never, always, or where
     /// a memory does not begin as its image.
     pub startup: u32,
-    /// The interned type of the startup function; 0 where there is none.
+    /// The interned type of the startup function; 0 where none runs.
     pub startup_type: u32,
-    /// Whether memories begin as images.
+    /// Whether memories begin as images. There may be no image all the same.
     pub images_made: u32,
     /// How many interned types there are.
     pub types: u32,
-    /// The alignment of images, in bytes; 0 where there are none.
+    /// The alignment of images, in bytes; 0 where `images_made` is 0.
     pub data_align: u64,
     /// The index of the start function; `u32::MAX` where there is none.
     pub start: u32,
@@ -55,7 +55,7 @@ pub struct Facts {
     /// Where the contents of the code section begin in the module, in bytes; 0 without a code
     /// section.
     pub code_section_offset: u64,
-    /// Where the module begins in the bytes that were read.
+    /// Where the module begins in the bytes that were read: 0.
     pub module_offset: u64,
     /// Whether the module has sections of debug information (DWARF), none of which is read.
     pub has_unparsed_debuginfo: u32,
@@ -244,9 +244,9 @@ pub struct ElementsRow {
 pub struct ItemsRow {
     /// The type of each item, a reference.
     pub element: ValueRow,
-    /// The items that are functions, a part of `functions`.
+    /// The items that are functions, a part of `functions` of the same list of items.
     pub functions: Span,
-    /// The items that are constant expressions, a part of the parts of `expressions`.
+    /// The items that are constant expressions, a part of the parts of its `expressions`.
     pub expressions: Span,
 }
 
@@ -306,7 +306,8 @@ pub struct HintsRow {
 pub struct BranchHintRow {
     /// The function, by its index.
     pub function: u32,
-    /// Where the branch is, in bytes from the beginning of the function's body.
+    /// Where the branch is, in bytes from the beginning of the function's body, which begins with its
+    /// locals.
     pub offset: u32,
     /// Whether it is likely to be taken.
     pub taken: u32,

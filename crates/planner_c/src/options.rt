@@ -32,7 +32,7 @@ pub struct PlanOptions {
     pub collector: u8,
     /// The page size of images, in bytes: a power of two.
     pub page_size: u64,
-    /// The size from which on an image must be half full of data, in bytes.
+    /// The size from which on an image must be more than half full of data, in bytes.
     pub max_image: u64,
 }
 

@@ -20,7 +20,8 @@ pub struct PlaceRecord<'d> {
     pub section_start: u32,
     /// The entry of the section, from 0 on, where an entry is wrong; else `u32::MAX`.
     pub entry: u32,
-    /// Where the wrong entry or part begins; the length of the module where it ends too early.
+    /// Where the wrong entry or part begins; the length of the module where it ends inside its header
+    /// or a section.
     pub byte: u32,
     /// Whatever follows so many of these bytes, it is refused; `u32::MAX` where the module ends too
     /// early.

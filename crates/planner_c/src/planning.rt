@@ -110,6 +110,7 @@ pub extern "C" fn bobbinazure_make_plan_and_text<'d>(
     ensures refused { result ≡ 1 → HasRefusal options.now bytes.now (λ refusal. TellsRefusal refusal out.new × GivesText 0 (text_of_refusal refusal) text_out.new) }
     ensures usage { (result ≡ 2) ↔ ¬ AreRight options.now }
     ensures same { result ≡ 2 → (out.new ≡ out.old) × (text_out.new ≡ text_out.old) }
+    ensures kept { result ≡ 5 → text_out.new ≡ text_out.old }
     ensures complete { IsValid (options_for options.now) bytes.now → result ≢ 1 }
 {
     let Some(command) = command_of(options) else {

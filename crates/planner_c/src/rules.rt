@@ -11,7 +11,8 @@ use rule_breaks::{BrokenRule, ModuleList, locate_broken_rule};
 use std::alloc::Global;
 use translate::{NO_MEMORY, REFUSED, SUCCESS};
 
-/// The first rule that a module breaks, and the first entry that breaks it: `bobbinazure_broken_rule`.
+/// The first rule that a module breaks, and the first entry that breaks it, in the first of the lists
+/// of the rule that has one: `bobbinazure_broken_rule`.
 #[repr(C)]
 #[derive(Clone, Copy)]
 pub struct BrokenRuleRecord<'d> {

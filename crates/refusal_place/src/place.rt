@@ -44,12 +44,12 @@ pub struct Place {
     /// The entry of the section, from 0 on, where an entry is wrong.
     pub entry: Option<u32>,
     /// The offset at which the wrong entry or part begins; the length of the input where that ends
-    /// too early.
+    /// inside the header or a section.
     pub byte: u32,
     /// What is wrong.
     pub fault: Fault,
-    /// No input that begins with so many of these bytes is a module. `None` where the input ends too
-    /// early.
+    /// No input that begins with so many of these bytes is a module. `None` where the input ends
+    /// inside the header, a size or a section.
     pub decided: Option<u32>,
 }
 

@@ -24,6 +24,9 @@ use std::alloc::Global;
 
 /// The entry that is the first to break a rule, in the first such list of the rule;
 /// none where the module satisfies the rule. The lists were gathered, and their types keep L1.
+///
+/// # Errors
+/// `OutOfMemory` where an entry finds no memory.
 pub fn first_break(
     alloc: Global,
     lists: &Lists<'_, '_>,

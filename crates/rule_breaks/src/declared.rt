@@ -16,8 +16,11 @@ use form_types::{is_function, names_below};
 use std::alloc::{AllocError, Global};
 use wasm_spec::UnpackedIndex;
 
-/// The first declared type that names a type past its group, has a supertype that is not before
-/// it, or is a continuation of no function type; none where the module satisfies L1.
+/// The index of the first declared type that names a type past its group, has a supertype that is
+/// not before it, or is a continuation of no function type; none where the module satisfies L1.
+///
+/// # Errors
+/// `AllocError` where a group finds no memory.
 pub fn first_bad_type(alloc: Global, source: Source<'_, '_>) -> Result<Option<u32>, AllocError>
     ensures { let l = lists_of_module (source_module source.entry) in IfOk result (Finds (IsDeclaredWell l) l.types) }
 {

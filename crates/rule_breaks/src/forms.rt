@@ -20,6 +20,9 @@ use std::alloc::Global;
 /// The entry that is the first to break a rule, in the first such list of the rule;
 /// none where the module satisfies the rule. It must satisfy the rules of lower numbers, as where
 /// `check` returns this rule.
+///
+/// # Errors
+/// `OutOfMemory` where the lists or an entry find no memory.
 pub fn locate_break(
     alloc: Global,
     form: &Form<'_>,

@@ -33,8 +33,7 @@ use std::fmt;
 pub struct BrokenRule {
     pub rule: Rule,
     pub place: Break,
-    /// The kind of the section that has the entry. An import has it where the entry of an index
-    /// space is imported.
+    /// The kind of the section that has the entry: the import section where the entry is imported.
     pub section: SectionKind,
     /// The entry of that section, from 0 on: of a type the recursion group that has it. It is 0 in
     /// start and data count sections, which have one number.
@@ -59,8 +58,8 @@ impl fmt::Display for BrokenRule {
     }
 }
 
-/// The first rule that the module breaks, and the first entry that breaks it, with where it begins;
-/// none where the bytes are not read as a module, and where the module satisfies all rules.
+/// The first rule that the module breaks, and the first entry that breaks it, in the first of the
+/// lists of the rule that has one, with where it begins and what is wrong; none where the bytes are not read as a module, and where the module satisfies all rules.
 ///
 /// # Errors
 /// `OutOfMemory` where the module, the check or an entry finds no memory.

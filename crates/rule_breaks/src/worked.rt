@@ -10,7 +10,8 @@ ghost use Rattle.rule_breaks.specs.Refused.{BreaksFirst};
 ghost use Rattle.rule_breaks.specs.SectionEntries.{IsEntryOf, IsGroupOf};
 ghost use Rattle.rule_breaks.specs.Worked.{two_narrow, imported_and_narrow, imported_and_narrow_bytes, narrow_is_broken, two_and_one};
 
-/// Of two memories that break rule L4 the first is the break; no entry of a table is. A function lacks its body, and the second of two exports repeats a name.
+/// Of three memories the last two break rule L4, and memory 1 is the first break. A function lacks its
+/// body, and the second of two exports repeats a name.
 pub fn worked_breaks()
     ensures memory { IsFirstBreak rule.L4 (lists_of_module two_narrow) list.Memories 1 }
     ensures no_later { ¬ IsFirstBreak rule.L4 (lists_of_module two_narrow) list.Memories 2 }

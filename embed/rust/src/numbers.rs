@@ -99,7 +99,7 @@ pub const IN_SEGMENTS: u32 = 13;
 
 /// offset: the offset itself, which the planner computed
 pub const AT_BYTE: u32 = 0;
-/// offset: the bits of the constant, of 32 or 64 bits
+/// offset: the bits of the constant; of 32, zeros before them
 pub const AT_CONSTANT: u32 = 1;
 /// offset: the index of the global that holds it
 pub const AT_GLOBAL: u32 = 2;

@@ -44,9 +44,10 @@ pub struct Place {
     pub section_start: u32,
     /// The entry of the section, from 0 on, where an entry is wrong.
     pub entry: Option<u32>,
-    /// The offset of what is wrong; the length of the input where it ends too early.
+    /// The offset of what is wrong; the length of the input where it ends inside its header or a section.
     pub byte: u32,
-    /// Input that begins with so many of these bytes is refused too; `None` where it ends too early.
+    /// Input that begins with so many of these bytes is refused too; `None` where it ends inside its header, a size or a
+    /// section.
     pub decided: Option<u32>,
     /// What is wrong, from [`numbers::FAULT_HEADER`](crate::numbers::FAULT_HEADER) on.
     pub fault: u32,

@@ -41,13 +41,13 @@ pub(crate) struct PlanRecord {
     /// When the startup function runs, from [`numbers::STARTUP_NONE`](crate::numbers::STARTUP_NONE) on: never, always, or where
     /// a memory does not begin as its image.
     pub(crate) startup: u32,
-    /// The interned type of the startup function; 0 where there is none.
+    /// The interned type of the startup function; 0 where none runs.
     pub(crate) startup_type: u32,
-    /// Whether memories begin as images.
+    /// Whether memories begin as images. There may be no image all the same.
     pub(crate) images_made: u32,
     /// How many interned types there are.
     pub(crate) types: u32,
-    /// The alignment of images, in bytes; 0 where there are none.
+    /// The alignment of images, in bytes; 0 where `images_made` is 0.
     pub(crate) data_align: u64,
     /// The index of the start function; `u32::MAX` where there is none.
     pub(crate) start: u32,
@@ -58,13 +58,13 @@ pub(crate) struct PlanRecord {
     /// Where the contents of the code section begin in the module, in bytes; 0 without a code
     /// section.
     pub(crate) code_section_offset: u64,
-    /// Where the module begins in the bytes that were read.
+    /// Where the module begins in the bytes that were read: 0.
     pub(crate) module_offset: u64,
     /// Whether the module has sections of debug information (DWARF), none of which is read.
     pub(crate) has_unparsed_debuginfo: u32,
     /// The bytes of a pointer of the target: 4 or 8.
     pub(crate) pointer: u32,
-    /// Where the parts of the context begin.
+    /// Where the parts of the context begin. Align a context to 16 bytes.
     pub(crate) context: Context,
     /// The interned type of each type of the type section.
     pub(crate) declared: List<u32>,

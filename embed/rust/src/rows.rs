@@ -26,7 +26,7 @@ pub struct Options {
     pub collector: u8,
     /// The page size of images, in bytes: a power of two.
     pub page_size: u64,
-    /// The size from which on an image must be half full of data, in bytes.
+    /// The size from which on an image must be more than half full of data, in bytes.
     pub max_image: u64,
 }
 
@@ -238,9 +238,9 @@ pub struct Elements {
 pub struct Items {
     /// The type of each item, a reference.
     pub element: Value,
-    /// The items that are functions, a part of `functions`.
+    /// The items that are functions, a part of `functions` of the same list of items.
     pub functions: Span,
-    /// The items that are constant expressions, a part of the parts of `expressions`.
+    /// The items that are constant expressions, a part of the parts of its `expressions`.
     pub expressions: Span,
 }
 
@@ -300,7 +300,8 @@ pub struct Hints {
 pub struct BranchHint {
     /// The function, by its index.
     pub function: u32,
-    /// Where the branch is, in bytes from the beginning of the function's body.
+    /// Where the branch is, in bytes from the beginning of the function's body, which begins with its
+    /// locals.
     pub offset: u32,
     /// Whether it is likely to be taken.
     pub taken: u32,
@@ -694,7 +695,8 @@ pub struct Place {
     pub section_start: u32,
     /// The entry of the section, from 0 on, where an entry is wrong; else `u32::MAX`.
     pub entry: u32,
-    /// Where the wrong entry or part begins; the length of the module where it ends too early.
+    /// Where the wrong entry or part begins; the length of the module where it ends inside its header
+    /// or a section.
     pub byte: u32,
     /// Whatever follows so many of these bytes, it is refused; `u32::MAX` where the module ends too
     /// early.
@@ -707,7 +709,8 @@ pub struct Place {
     pub made: u32,
 }
 
-/// The first rule that a module breaks, and the first entry that breaks it.
+/// The first rule that a module breaks, and the first entry that breaks it, in the first of the lists
+/// of the rule that has one.
 #[repr(C)]
 #[derive(Default)]
 pub struct BrokenRule {
@@ -737,7 +740,7 @@ pub struct Section {
     pub id: u32,
     /// The offset of the section, which begins with its id.
     pub start: u32,
-    /// The offset of its contents.
+    /// The offset of its contents. Those of a custom section begin with its name.
     pub contents: u32,
     /// The length of its contents, in bytes.
     pub size: u32,
