@@ -11,7 +11,7 @@ use std::alloc::Global;
 use std::test::Fail;
 use translate::{Collector, Plan, TranslateError, translate_module};
 
-fn plan_of<'d>(alloc: Global, bytes: &'d [u8]) -> Result<Plan<'d>, TranslateError>
+pub(crate) fn plan_of<'d>(alloc: Global, bytes: &'d [u8]) -> Result<Plan<'d>, TranslateError>
     ensures { IfOk result IsSomePlan }
 {
     let page_size = 4096u64.next_power_of_two();

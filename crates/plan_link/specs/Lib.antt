@@ -2,4 +2,5 @@ pub mod Answers
 pub mod Lines
 pub mod Linkable
 pub mod Linked
+pub mod Program
 pub mod Registering

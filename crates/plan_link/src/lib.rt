@@ -23,9 +23,13 @@ mod answering;
 mod laws;
 mod lines;
 mod linking;
+mod program;
+mod program_links;
+mod program_types;
 mod registering;
 
 pub use answer::ImportAnswer;
 pub use laws::{given_law, planned_can_link, translated_can_link};
 pub use lines::mismatch_line;
 pub use linking::link_plans;
+pub use program::{LinkedModule, ProgramError, ProgramModule, link_program};

@@ -1,0 +1,111 @@
+//! A program of many modules.
+
+ghost use Rattle.std.specs.Prelude.{◌≡◌, ◌↔◌, ◌≤◌, ◌⊎◌, ⊥, ℕ, All, IfOk, IsOk, IsErrOf};
+ghost use Rattle.plan_link.specs.declared.program.ProgramError.TheVariants as refused;
+ghost use Rattle.plan_link.specs.Program.{IsPlannedModule, IsProgram, IsDuplicate, IsCrowded, count_types, capacity};
+
+use crate::answer::ImportAnswer;
+use crate::laws::planned_can_link;
+use crate::program_links::link_members;
+use crate::program_types::{MOST_TYPES, check_capacity, register_all};
+use entity_map::OutOfMemory;
+use plan::Plan;
+use std::alloc::{AllocError, AllocFailed, Global};
+use thiserror::Error;
+use type_registry::{TypeRegistry, same_law};
+use wasm_index::VMSharedTypeIndex;
+
+/// A module of a program.
+#[derive(Clone, Copy)]
+pub struct ProgramModule<'a, 'd> {
+    /// The name under which later modules import its exports.
+    pub name: &'a str,
+    /// Its plan.
+    pub plan: &'a Plan<'d>,
+}
+
+/// What the linker finds for a module of a program.
+#[derive(Drop)]
+pub struct LinkedModule {
+    /// The registry's index of each interned type, in order. Two types of the program have one
+    /// index exactly where they are equal.
+    pub types: Vec<VMSharedTypeIndex>,
+    /// The answer to each import, in order. The numbers of exports count those of all modules, from
+    /// 0 on, in order.
+    pub answers: Vec<ImportAnswer>,
+    /// How many exports the modules before it have: the number of its own first export.
+    pub first_export: usize,
+}
+
+/// Why a program is refused. Modules are counted from 0.
+#[derive(Clone, Copy, Debug, Drop, PartialEq, Eq, Error)]
+pub enum ProgramError {
+    /// An export of this module has the two names of an export of an earlier module.
+    #[error("an export of module {0} has the names of an earlier one")]
+    Duplicate(usize),
+    /// With the types of this module, the program has more than a registry may hold.
+    #[error("too many types at module {0}")]
+    TooManyTypes(usize),
+    /// A list or a map found no memory.
+    #[error("out of memory")]
+    OutOfMemory,
+}
+
+impl From<OutOfMemory> for ProgramError {
+    ghost use Rattle.plan_link.specs.declared.program.ProgramError.TheVariants as errors;
+
+    ghost from_gives = { λ _ e. e ≡ errors.OutOfMemory };
+
+    fn from(_refused: OutOfMemory) -> ProgramError {
+        ProgramError::OutOfMemory
+    }
+}
+
+impl From<AllocError> for ProgramError {
+    ghost use Rattle.plan_link.specs.declared.program.ProgramError.TheVariants as errors;
+
+    ghost from_gives = { λ _ e. e ≡ errors.OutOfMemory };
+
+    fn from(_refused: AllocError) -> ProgramError {
+        ProgramError::OutOfMemory
+    }
+}
+
+/// The value that found no memory is dropped.
+impl<T: Drop> From<AllocFailed<T>> for ProgramError {
+    ghost use Rattle.plan_link.specs.declared.program.ProgramError.TheVariants as errors;
+
+    ghost from_gives = { λ _ e. e ≡ errors.OutOfMemory };
+
+    fn from(_refused: AllocFailed<T>) -> ProgramError {
+        ProgramError::OutOfMemory
+    }
+}
+
+/// Links the modules of a program, in order: one registry has the types of all, and the imports of
+/// each module are given by the exports of those before it, each under the name of its module. An
+/// import that is not given refuses nothing: its answer says so.
+///
+/// # Errors
+/// `TooManyTypes` where the modules have more than 2^32 - 2 types, before all others; `Duplicate`
+/// where two modules export an entity under the same two names; `OutOfMemory`.
+pub fn link_program(
+    alloc: Global,
+    modules: &[ProgramModule<'_, '_>],
+) -> Result<Vec<LinkedModule>, ProgramError>
+    requires { All IsPlannedModule modules.now }
+    ensures linked { IfOk result (λ linked. IsProgram modules.now linked.items) }
+    ensures crowded { (k : ℕ) → IsErrOf result (refused.TooManyTypes k) ↔ IsCrowded modules.now k }
+    ensures duplicate { (k : ℕ) → IsErrOf result (refused.Duplicate k) → IsDuplicate modules.now k }
+    ensures repeated { (k : ℕ) → count_types modules.now ≤ capacity → IsDuplicate modules.now k
+        → IsErrOf result (refused.Duplicate k) ⊎ IsErrOf result refused.OutOfMemory }
+    ensures complete { count_types modules.now ≤ capacity → ((k : ℕ) → IsDuplicate modules.now k → ⊥)
+        → IsOk result ⊎ IsErrOf result refused.OutOfMemory }
+{
+    planned_can_link();
+    same_law();
+    check_capacity(modules)?;
+    let mut registry = TypeRegistry::new(alloc, MOST_TYPES);
+    let keys = register_all(alloc, &mut registry, modules)?;
+    link_members(alloc, &registry, &keys, modules)
+}
