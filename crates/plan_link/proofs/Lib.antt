@@ -7,6 +7,10 @@ pub mod Found
 pub mod Given
 pub mod Held
 pub mod Linkable
+pub mod Members
 pub mod Outcomes
 pub mod Planned
+pub mod Positions
+pub mod Programs
+pub mod Repeats
 pub mod TypesBelow

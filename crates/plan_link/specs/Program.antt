@@ -38,27 +38,31 @@ abbrev pub all_exported : RegistryState → List Member → List Definition
 all_exported registry ms =
     flat_map (λ (m : Member). exported registry m.1 m.0.plan.now.translation.module m.0.name.now) ms
 
--- what the linker finds for a member behind others
-pub record IsLinkedBehind (registry : RegistryState) (before : List Member) (m : Member) (found : LinkedModule) : Type 0 where
+-- what the linker finds for a member, where the exports before its own give these definitions
+pub record IsLinkedBy (registry : RegistryState) (before : List Definition) (m : Member) (found : LinkedModule) : Type 0 where
   -- the registry's index of each of its types, in order
   pub types : (i : ℕ) → slice_get (map number_of found.types.items) i ≡ index_at (registry_of registry) (key_number m.1) i
-  -- the answer to each of its imports, by the exports of the others
-  pub answers : found.answers.items ≡ import_answers (all_exported registry before) (wanted registry m.1 m.0.plan.now.translation.module)
-  -- how many exports these have
-  pub first_export : found.first_export ≡ length (all_exported registry before)
+  -- the answer to each of its imports, by these definitions
+  pub answers : found.answers.items ≡ import_answers before (wanted registry m.1 m.0.plan.now.translation.module)
+  -- how many there are
+  pub first_export : found.first_export ≡ length before
 
--- what the linker finds for each module of a program, in order
-pub record IsProgram (modules : List ProgramModule) (linked : List LinkedModule) : Type 0 where
+-- and for each member in order, by the exports of those before it
+pub record AreLinked (registry : RegistryState) (members : List Member) (linked : List LinkedModule) : Type 0 where
+  pub counted : length linked ≡ length members
+  pub each : (k : ℕ) (m : Member) (found : LinkedModule) → slice_get members k ≡ Some m → slice_get linked k ≡ Some found
+      → IsLinkedBy registry (all_exported registry (take k members)) m found
+
+-- what the linker finds for each module of a program
+pub record IsProgram (modules : List ProgramModule) (results : List LinkedModule) : Type 0 where
   -- one registry holds the types of all
   pub registry : RegistryState
   pub members : List Member
   pub in_order : map (λ (m : Member). m.0) members ≡ modules
   pub held : All (IsHeldIn registry) members
   pub tells : All (λ (a : Member). All (TellApart registry a) members) members
-  -- with its indices each import is answered by the exports of the modules before its own
-  pub counted : length linked ≡ length members
-  pub linked : (k : ℕ) (m : Member) (found : LinkedModule) → slice_get members k ≡ Some m → slice_get linked k ≡ Some found
-      → IsLinkedBehind registry (take k members) m found
+  -- with its indices, imports are answered by the exports of the modules before
+  pub linked : AreLinked registry members results
 
 -- ---- why a program is refused
 

@@ -1,17 +1,16 @@
 //! A program of many modules.
 
-ghost use Rattle.std.specs.Prelude.{◌≡◌, ◌↔◌, ◌≤◌, ◌⊎◌, ⊥, ℕ, All, IfOk, IsOk, IsErrOf};
-ghost use Rattle.plan_link.specs.declared.program.ProgramError.TheVariants as refused;
+ghost use Rattle.std.specs.Prelude.{◌≡◌, ◌↔◌, ◌≤◌, ◌⊎◌, ℕ, All, IfOk, IsOk, IsErrOf};
+ghost use Rattle.plan_link.specs.declared.program_error.ProgramError.TheVariants as refused;
 ghost use Rattle.plan_link.specs.Program.{IsPlannedModule, IsProgram, IsDuplicate, IsCrowded, count_types, capacity};
 
 use crate::answer::ImportAnswer;
 use crate::laws::planned_can_link;
+use crate::program_error::ProgramError;
 use crate::program_links::link_members;
-use crate::program_types::{MOST_TYPES, check_capacity, register_all};
-use entity_map::OutOfMemory;
+use crate::program_types::{MOST_TYPES, crowded_at, register_all};
 use plan::Plan;
-use std::alloc::{AllocError, AllocFailed, Global};
-use thiserror::Error;
+use std::alloc::Global;
 use type_registry::{TypeRegistry, same_law};
 use wasm_index::VMSharedTypeIndex;
 
@@ -37,51 +36,6 @@ pub struct LinkedModule {
     pub first_export: usize,
 }
 
-/// Why a program is refused. Modules are counted from 0.
-#[derive(Clone, Copy, Debug, Drop, PartialEq, Eq, Error)]
-pub enum ProgramError {
-    /// An export of this module has the two names of an export of an earlier module.
-    #[error("an export of module {0} has the names of an earlier one")]
-    Duplicate(usize),
-    /// With the types of this module, the program has more than a registry may hold.
-    #[error("too many types at module {0}")]
-    TooManyTypes(usize),
-    /// A list or a map found no memory.
-    #[error("out of memory")]
-    OutOfMemory,
-}
-
-impl From<OutOfMemory> for ProgramError {
-    ghost use Rattle.plan_link.specs.declared.program.ProgramError.TheVariants as errors;
-
-    ghost from_gives = { λ _ e. e ≡ errors.OutOfMemory };
-
-    fn from(_refused: OutOfMemory) -> ProgramError {
-        ProgramError::OutOfMemory
-    }
-}
-
-impl From<AllocError> for ProgramError {
-    ghost use Rattle.plan_link.specs.declared.program.ProgramError.TheVariants as errors;
-
-    ghost from_gives = { λ _ e. e ≡ errors.OutOfMemory };
-
-    fn from(_refused: AllocError) -> ProgramError {
-        ProgramError::OutOfMemory
-    }
-}
-
-/// The value that found no memory is dropped.
-impl<T: Drop> From<AllocFailed<T>> for ProgramError {
-    ghost use Rattle.plan_link.specs.declared.program.ProgramError.TheVariants as errors;
-
-    ghost from_gives = { λ _ e. e ≡ errors.OutOfMemory };
-
-    fn from(_refused: AllocFailed<T>) -> ProgramError {
-        ProgramError::OutOfMemory
-    }
-}
-
 /// Links the modules of a program, in order: one registry has the types of all, and the imports of
 /// each module are given by the exports of those before it, each under the name of its module. An
 /// import that is not given refuses nothing: its answer says so.
@@ -104,7 +58,9 @@ pub fn link_program(
 {
     planned_can_link();
     same_law();
-    check_capacity(modules)?;
+    if let Some(place) = crowded_at(modules) {
+        return Err(ProgramError::TooManyTypes(place));
+    }
     let mut registry = TypeRegistry::new(alloc, MOST_TYPES);
     let keys = register_all(alloc, &mut registry, modules)?;
     link_members(alloc, &registry, &keys, modules)

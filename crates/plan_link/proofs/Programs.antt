@@ -1,0 +1,101 @@
+-- Whole programs: capacity, equal types, and why one is refused.
+use Rattle.std.proofs.Common.{◌≡◌, ◌∙◌, ◌≤◌, ◌+◌, ℕ, zero, suc, List, [], ◌∷◌, length, map, take, slice_get, All, Some, Result, Ok, Err, inl, inr, refl, sym, ap, arith}
+use Rattle.std.specs.Prelude.{◌⊎◌, IfErr, OnOk, IsOk, IsErrOf}
+use Rattle.std.specs.List.{sum_by, zip}
+use Rattle.std.specs.Option.{option_map}
+use Rattle.std.proofs.lemmas.Bool.{cases_order}
+use Rattle.std.proofs.lemmas.List.Sums.{sum_by-cons}
+use Rattle.std.proofs.lemmas.Option.{slice_get-map}
+use Rattle.std.proofs.lemmas.Slice.Zip.{AllZip-long, firsts-zip}
+use Rattle.module_types.specs.Listed.{Listed}
+use Rattle.module_types.specs.TypeList.{TypeList}
+use Rattle.type_registry.specs.Keys.{key_number}
+use Rattle.type_registry.specs.Registry.{Registry, RegistryState, registry_of}
+use Rattle.type_registry.specs.Standing.{Stands, TellsTypes}
+use Rattle.type_registry.specs.declared.key.ModuleKey.{ModuleKey}
+use Rattle.import_match.proofs.Listing.{All-slice_get, All-from_slice_get}
+use Rattle.plan_link.specs.declared.program.LinkedModule.{LinkedModule}
+use Rattle.plan_link.specs.declared.program.ProgramModule.{ProgramModule}
+use Rattle.plan_link.specs.declared.program_error.ProgramError.{ProgramError}
+use Rattle.plan_link.specs.declared.program_error.ProgramError.TheVariants as refused
+use Rattle.plan_link.specs.Program.{Member, IsHeldIn, TellApart, AreLinked, IsProgram, IsCrowded, IsDuplicate, RepeatsNames}
+use Rattle.plan_link.specs.Members.{IsLinkableModule, AreHeld, IsUnlinked}
+use Rattle.plan_link.proofs.Positions.{zip-all}
+
+-- ---- capacity
+
+-- more modules have no fewer types
+grows : {X : Type 0} (f : X → ℕ) (xs : List X) (i j : ℕ) → i ≤ j → sum_by f (take i xs) ≤ sum_by f (take j xs)
+grows f xs zero j le = omega arith
+grows f [] (suc i) zero le = absurd (omega (arith, le))
+grows f [] (suc i) (suc j) le = omega arith
+grows f (x ∷ xs) (suc i) zero le = absurd (omega (arith, le))
+grows f (x ∷ xs) (suc i) (suc j) le =
+    omega (arith, sum_by-cons f x (take i xs), sum_by-cons f x (take j xs), grows f xs i j (omega (arith, le)))
+
+-- they pass the capacity at one module
+pub crowded-once : (ms : List ProgramModule) (i j : ℕ) → IsCrowded ms i → IsCrowded ms j → i ≡ j
+crowded-once ms i j a b =
+    let f : ProgramModule → ℕ = λ m. length m.plan.now.types.types in
+    elim (cases_order i j) [
+      | inl is ↦ is
+      | inr other ↦ elim other [
+        | inl less ↦ absurd (omega (arith, a.passes, b.fits, grows f ms (i + 1) j (omega (arith, less))))
+        | inr more ↦ absurd (omega (arith, b.passes, a.fits, grows f ms (j + 1) i (omega (arith, more))))
+      ]
+    ]
+
+-- ---- equal types
+
+-- types of two held lists have one index exactly where they are equal
+abbrev pub Tells : Type 0
+Tells = (r : Registry) (a b : ℕ) (l k : TypeList) → Listed l → Listed k → Stands r a l → Stands r b k → TellsTypes r a l b k
+
+pub program-of : Tells → (registry : RegistryState) (modules : List ProgramModule) (keys : List ModuleKey) → AreHeld registry modules keys
+    → All IsLinkableModule modules → (linked : List LinkedModule) → AreLinked registry (zip modules keys) linked → IsProgram modules linked
+program-of tells registry modules keys held linkable linked is =
+    let Holds : ProgramModule → ModuleKey → Type 0 = λ x k. IsHeldIn registry (x, k) in
+    let members = zip modules keys in
+    let in_order : map (λ (m : Member). m.0) members ≡ modules = firsts-zip modules keys (AllZip-long Holds modules keys held) in
+    let stands : All (IsHeldIn registry) members = zip-all Holds modules keys held in
+    let listed : (i : ℕ) (a : Member) → slice_get members i ≡ Some a → Listed a.0.plan.now.types =
+    λ i a at. (All-slice_get IsLinkableModule modules i a.0 linkable (ap (λ (ms : List ProgramModule). slice_get ms i) (sym in_order)
+    ∙ slice_get-map (λ (m : Member). m.0) members i ∙ ap (option_map (λ (m : Member). m.0)) at)).listed
+    in
+    record {
+      registry = registry;
+      members = members;
+      in_order = in_order;
+      held = stands;
+      tells = All-from_slice_get (λ (a : Member). All (TellApart registry a) members) members (λ i a at_a.
+          All-from_slice_get (TellApart registry a) members (λ j b at_b.
+          tells (registry_of registry) (key_number a.1) (key_number b.1) a.0.plan.now.types b.0.plan.now.types (listed i a at_a) (listed j b at_b)
+          (All-slice_get (IsHeldIn registry) members i a stands at_a) (All-slice_get (IsHeldIn registry) members j b stands at_b)));
+      linked = is;
+    }
+
+-- ---- refusals
+
+pub duplicate-once : (ms : List ProgramModule) (i j : ℕ) → IsDuplicate ms i → IsDuplicate ms j → i ≡ j
+duplicate-once ms i j a b =
+    elim (cases_order i j) [
+      | inl is ↦ is
+      | inr other ↦ elim other [
+        | inl less ↦ absurd (b.first i less a.repeats)
+        | inr more ↦ absurd (a.first j more b.repeats)
+      ]
+    ]
+
+pub repeated-of : {A : Type 0} (ms : List ProgramModule) (r : Result A ProgramError) → OnOk r ((k : ℕ) → RepeatsNames ms k → ⊥) → IfErr r (IsUnlinked ms)
+    → (k : ℕ) → IsDuplicate ms k → IsErrOf r (refused.Duplicate k) ⊎ IsErrOf r refused.OutOfMemory
+repeated-of ms (Ok x) once err k twice = absurd (once k twice.repeats)
+repeated-of ms (Err (refused.Duplicate j)) once err k twice = inl (ap (λ (n : ℕ). Err (refused.Duplicate n)) (duplicate-once ms j k err twice))
+repeated-of ms (Err (refused.TooManyTypes j)) once err k twice = absurd err
+repeated-of ms (Err refused.OutOfMemory) once err k twice = inr refl
+
+pub complete-of : {A : Type 0} (ms : List ProgramModule) (r : Result A ProgramError) → IfErr r (IsUnlinked ms) → ((k : ℕ) → IsDuplicate ms k → ⊥)
+    → IsOk r ⊎ IsErrOf r refused.OutOfMemory
+complete-of ms (Ok x) err none = inl refl
+complete-of ms (Err (refused.Duplicate j)) err none = absurd (none j err)
+complete-of ms (Err (refused.TooManyTypes j)) err none = absurd err
+complete-of ms (Err refused.OutOfMemory) err none = inr refl
