@@ -1,9 +1,13 @@
 //! Programs of three modules.
 
+ghost use Rattle.plan_link.specs.Linked.{IsSomePlan};
+ghost use Rattle.plan_link.specs.Program.{IsPlannedModule};
+
 use crate::plans::plan_of;
 use plan_link::{ImportAnswer, LinkedModule, ProgramError, ProgramModule, link_program};
 use std::alloc::Global;
 use std::test::Fail;
+use translate::Plan;
 
 /// It has the type `(func (param i32) (result i32))`, and exports a function `f` of it.
 const BASE: [u8; 35] = [
@@ -35,12 +39,19 @@ const TOP: [u8; 37] = [
 
 type Linked = Result<Vec<LinkedModule>, ProgramError>;
 
+fn module_of<'a, 'd>(name: &'a str, plan: &'a Plan<'d>) -> ProgramModule<'a, 'd>
+    requires { IsSomePlan plan.now }
+    ensures { IsPlannedModule result }
+{
+    ProgramModule { name, plan }
+}
+
 /// Links the plans of three modules under their names.
-fn linked(
+fn linked<'x>(
     alloc: Global,
-    first: (&str, &[u8]),
-    second: (&str, &[u8]),
-    third: (&str, &[u8]),
+    first: (&'x str, &'x [u8]),
+    second: (&'x str, &'x [u8]),
+    third: (&'x str, &'x [u8]),
 ) -> Result<Linked, Fail> {
     let base = plan_of(alloc, first.1)?;
     let middle = plan_of(alloc, second.1)?;
@@ -48,18 +59,9 @@ fn linked(
     let linked = link_program(
         alloc,
         &[
-            ProgramModule {
-                name: first.0,
-                plan: &base,
-            },
-            ProgramModule {
-                name: second.0,
-                plan: &middle,
-            },
-            ProgramModule {
-                name: third.0,
-                plan: &top,
-            },
+            module_of(first.0, &base),
+            module_of(second.0, &middle),
+            module_of(third.0, &top),
         ],
     );
     Ok(linked)
