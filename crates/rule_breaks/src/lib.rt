@@ -45,6 +45,7 @@ mod exports;
 mod expressions;
 mod fault;
 mod fault_examples;
+mod fault_text;
 mod faults;
 mod faults_entries;
 mod faults_segments;
