@@ -1,5 +1,5 @@
 -- Items at positions of lists that grow at the end, and of two lists side by side.
-use Rattle.std.proofs.Common.{◌≡◌, ◌∙◌, ◌<◌, ◌≤◌, ◌+◌, ℕ, List, [], ◌∷◌, ◌++◌, length, slice_get, All, Option, Some, inl, inr, sym, ap, arith, length-append}
+use Rattle.std.proofs.Common.{◌≡◌, ◌∙◌, ◌<◌, ◌≤◌, ◌+◌, ℕ, zero, suc, List, [], ◌∷◌, ◌++◌, length, slice_get, All, Option, Some, inl, inr, refl, sym, ap, arith, length-append}
 use Rattle.std.specs.Prelude.{◌⊎◌}
 use Rattle.std.specs.List.{AllZip, zip}
 use Rattle.std.proofs.Math.ListN.{get_or-append}
@@ -53,3 +53,9 @@ zip-weaker R S f [] [] all = all
 zip-weaker R S f [] (y ∷ ys) all = absurd all
 zip-weaker R S f (x ∷ xs) [] all = absurd all
 zip-weaker R S f (x ∷ xs) (y ∷ ys) all = (f x y all.0, zip-weaker R S f xs ys all.1)
+
+-- there is an item at each position below the length
+pub some-at : {X : Type 0} (xs : List X) (k : ℕ) → k < length xs → (x : X) × (slice_get xs k ≡ Some x)
+some-at [] k less = absurd (omega (arith, less))
+some-at (x ∷ xs) zero less = (x, refl)
+some-at (x ∷ xs) (suc k) less = some-at xs k (omega (arith, less))

@@ -1,11 +1,11 @@
 -- Whole programs: capacity, equal types, and why one is refused.
-use Rattle.std.proofs.Common.{◌≡◌, ◌∙◌, ◌≤◌, ◌+◌, ℕ, zero, suc, List, [], ◌∷◌, length, map, take, slice_get, All, Some, Result, Ok, Err, inl, inr, refl, sym, ap, arith}
+use Rattle.std.proofs.Common.{◌≡◌, ◌∙◌, ◌≤◌, ◌+◌, ℕ, zero, suc, List, [], ◌∷◌, length, map, take, slice_get, All, Some, Result, Ok, Err, inl, inr, refl, sym, ap, subst, arith}
 use Rattle.std.specs.Prelude.{◌⊎◌, IfErr, OnOk, IsOk, IsErrOf}
 use Rattle.std.specs.List.{sum_by, zip}
 use Rattle.std.specs.Option.{option_map}
 use Rattle.std.proofs.lemmas.Bool.{cases_order}
 use Rattle.std.proofs.lemmas.List.Sums.{sum_by-cons}
-use Rattle.std.proofs.lemmas.Option.{slice_get-map}
+use Rattle.std.proofs.lemmas.Option.{slice_get-map, slice_get_within}
 use Rattle.std.proofs.lemmas.Slice.Zip.{AllZip-long, firsts-zip}
 use Rattle.module_types.specs.Listed.{Listed}
 use Rattle.module_types.specs.TypeList.{TypeList}
@@ -14,13 +14,17 @@ use Rattle.type_registry.specs.Registry.{Registry, RegistryState, registry_of}
 use Rattle.type_registry.specs.Standing.{Stands, TellsTypes}
 use Rattle.type_registry.specs.declared.key.ModuleKey.{ModuleKey}
 use Rattle.import_match.proofs.Listing.{All-slice_get, All-from_slice_get}
+use Rattle.import_match.specs.Linking.{wanted}
+use Rattle.plan_link.specs.declared.answer.ImportAnswer.{ImportAnswer}
+use Rattle.plan_link.specs.Answers.{IsBelow}
 use Rattle.plan_link.specs.declared.program.LinkedModule.{LinkedModule}
 use Rattle.plan_link.specs.declared.program.ProgramModule.{ProgramModule}
 use Rattle.plan_link.specs.declared.program_error.ProgramError.{ProgramError}
 use Rattle.plan_link.specs.declared.program_error.ProgramError.TheVariants as refused
-use Rattle.plan_link.specs.Program.{Member, IsHeldIn, TellApart, AreLinked, IsProgram, IsCrowded, IsDuplicate, RepeatsNames}
+use Rattle.plan_link.specs.Program.{Member, GivesEarlier, all_exported, IsHeldIn, TellApart, AreLinked, IsProgram, IsCrowded, IsDuplicate, RepeatsNames}
 use Rattle.plan_link.specs.Members.{IsLinkableModule, AreHeld, IsUnlinked}
-use Rattle.plan_link.proofs.Positions.{zip-all}
+use Rattle.plan_link.proofs.Below.{answers-below}
+use Rattle.plan_link.proofs.Positions.{zip-all, some-at}
 
 -- ---- capacity
 
@@ -99,3 +103,16 @@ complete-of ms (Ok x) err none = inl refl
 complete-of ms (Err (refused.Duplicate j)) err none = absurd (none j err)
 complete-of ms (Err (refused.TooManyTypes j)) err none = absurd err
 complete-of ms (Err refused.OutOfMemory) err none = inr refl
+
+-- ---- numbers of exports
+
+-- imports are given by exports before the module's own
+pub program-below : (ms : List ProgramModule) (ls : List LinkedModule) → IsProgram ms ls → All GivesEarlier ls
+program-below ms ls is =
+    All-from_slice_get GivesEarlier ls (λ k l at.
+    let member = some-at is.members k (omega (arith, slice_get_within ls k l at, is.linked.counted)) in
+    let m = member.0 in
+    let ds = all_exported is.registry (take k is.members) in
+    let h = is.linked.each k m l member.1 at in
+    subst (λ (answers : List ImportAnswer). All (IsBelow l.first_export) answers) (sym h.answers)
+    (answers-below ds (wanted is.registry m.1 m.0.plan.now.translation.module) l.first_export (omega (arith, h.first_export))))

@@ -12,7 +12,7 @@ use Rattle.import_match.specs.Definitions.{Definition, IsDefined}
 use Rattle.import_match.specs.Linking.{exports_of, exported, wanted}
 use Rattle.plan_link.specs.declared.program.LinkedModule.{LinkedModule}
 use Rattle.plan_link.specs.declared.program.ProgramModule.{ProgramModule}
-use Rattle.plan_link.specs.Answers.{import_answers}
+use Rattle.plan_link.specs.Answers.{import_answers, IsBelow}
 use Rattle.plan_link.specs.Linked.{IsSomePlan}
 
 -- some bytes have the plan of a module
@@ -63,6 +63,10 @@ pub record IsProgram (modules : List ProgramModule) (results : List LinkedModule
   pub tells : All (λ (a : Member). All (TellApart registry a) members) members
   -- with its indices, imports are answered by the exports of the modules before
   pub linked : AreLinked registry members results
+
+-- each import that is given, is given an export before the module's own
+abbrev pub GivesEarlier : LinkedModule → Type 0
+GivesEarlier found = All (IsBelow found.first_export) found.answers.items
 
 -- ---- why a program is refused
 

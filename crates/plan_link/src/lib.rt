@@ -1,5 +1,5 @@
-//! Links of two plans, for `planner_c`: what each import of one module gets from the exports of
-//! another.
+//! Links of plans, for `planner_c`: what each import of one module gets from the exports of another,
+//! and of whole programs.
 //!
 //! Each import has its own answer: the number of an export, `Missing`, or the first rule that the
 //! export breaks. All imports are `Given` exactly where a linker resolves them, to the same
@@ -15,7 +15,10 @@
 //! A call registers the types of both modules in a registry of its own, and drops it. The only
 //! error is `OutOfMemory`.
 //!
-//! Read on: `linking`, `answer`, `laws`; `import_match` has linkers that live longer.
+//! `link_program` links any number of modules in order: the imports of each are answered by the
+//! exports of those before it. It also gives the registry's index of each type.
+//!
+//! Read on: `linking`, `program`, `answer`, `laws`; `import_match` has linkers that live longer.
 #![tactic(auto)]
 
 mod answer;
