@@ -1,5 +1,5 @@
--- A program: modules in order, each under a name. One registry has the types of all, and the imports
--- of each are given by the exports of those before it (core specification, 4.7, instantiation).
+-- A program: modules in order, each under a name. One registry has the types of all. The imports of
+-- each are given by the exports of those before it (core specification, 4.7, instantiation).
 use Rattle.std.specs.Prelude.{◌≡◌, ◌<◌, ◌≤◌, ◌+◌, ℕ, List, map, length, take, slice_get, All, Any, Some}
 use Rattle.std.specs.List.{flat_map, sum_by}
 use Rattle.wasm_index.specs.Index.{number_of}
@@ -92,7 +92,7 @@ capacity = 4294967294
 abbrev pub count_types : List ProgramModule → ℕ
 count_types ms = sum_by (λ (m : ProgramModule). length m.plan.now.types.types) ms
 
--- with the types of the module at a position, and not before, those of the program pass the capacity
+-- the types of the modules up to this position pass the capacity, and those before it do not
 pub record IsCrowded (modules : List ProgramModule) (k : ℕ) : Type 0 where
   pub fits : count_types (take k modules) ≤ capacity
   pub passes : capacity < count_types (take (k + 1) modules)
