@@ -7,13 +7,15 @@ use Rattle.std.proofs.lemmas.Bool.{cases_order}
 use Rattle.std.proofs.lemmas.List.Sums.{sum_by-cons}
 use Rattle.std.proofs.lemmas.Option.{slice_get-map, slice_get_within}
 use Rattle.std.proofs.lemmas.Slice.Zip.{AllZip-long, firsts-zip}
-use Rattle.module_types.specs.Listed.{Listed}
+use Rattle.type_spec.specs.Equality.{SameType}
+use Rattle.module_types.specs.ListGroups.{list_groups}
+use Rattle.module_types.specs.Listed.{Listed, list_of}
 use Rattle.module_types.specs.TypeList.{TypeList}
 use Rattle.type_registry.specs.Keys.{key_number}
 use Rattle.type_registry.specs.Registry.{Registry, RegistryState, registry_of}
 use Rattle.type_registry.specs.Standing.{Stands, TellsTypes}
 use Rattle.type_registry.specs.declared.key.ModuleKey.{ModuleKey}
-use Rattle.import_match.proofs.Listing.{All-slice_get, All-from_slice_get}
+use Rattle.import_match.proofs.Listing.{All-slice_get, All-from_slice_get, slice_get-from_map}
 use Rattle.import_match.specs.Linking.{wanted}
 use Rattle.plan_link.specs.declared.answer.ImportAnswer.{ImportAnswer}
 use Rattle.plan_link.specs.Answers.{IsBelow}
@@ -21,7 +23,7 @@ use Rattle.plan_link.specs.declared.program.LinkedModule.{LinkedModule}
 use Rattle.plan_link.specs.declared.program.ProgramModule.{ProgramModule}
 use Rattle.plan_link.specs.declared.program_error.ProgramError.{ProgramError}
 use Rattle.plan_link.specs.declared.program_error.ProgramError.TheVariants as refused
-use Rattle.plan_link.specs.Program.{Member, GivesEarlier, all_exported, IsHeldIn, TellApart, AreLinked, IsProgram, IsCrowded, IsDuplicate, RepeatsNames}
+use Rattle.plan_link.specs.Program.{Member, ShareIndices, GivesEarlier, all_exported, IsHeldIn, TellApart, AreLinked, IsProgram, IsCrowded, IsDuplicate, RepeatsNames}
 use Rattle.plan_link.specs.Members.{IsLinkableModule, AreHeld, IsUnlinked}
 use Rattle.plan_link.proofs.Below.{answers-below}
 use Rattle.plan_link.proofs.Positions.{zip-all, some-at}
@@ -116,3 +118,28 @@ program-below ms ls is =
     let h = is.linked.each k m l member.1 at in
     subst (λ (answers : List ImportAnswer). All (IsBelow l.first_export) answers) (sym h.answers)
     (answers-below ds (wanted is.registry m.1 m.0.plan.now.translation.module) l.first_export (omega (arith, h.first_export))))
+
+-- ---- indices of types
+
+module _ (ms : List ProgramModule) (ls : List LinkedModule) (is : IsProgram ms ls) where
+  -- the member that has a module
+  member-of : (k : ℕ) (m : ProgramModule) → slice_get ms k ≡ Some m → (x : Member) × (slice_get is.members k ≡ Some x) × (x.0 ≡ m)
+  member-of k m at = slice_get-from_map (λ (x : Member). x.0) is.members k m (ap (λ (xs : List ProgramModule). slice_get xs k) is.in_order ∙ at)
+
+  pub program-shares : ShareIndices ms ls
+  program-shares a b m n x y at_m at_n at_x at_y i j less_i less_j =
+      let first = member-of a m at_m in
+      let second = member-of b n at_n in
+      let one = is.linked.each a first.0 x first.1 at_x in
+      let two = is.linked.each b second.0 y second.1 at_y in
+      let tells = All-slice_get (TellApart is.registry first.0) is.members b second.0
+      (All-slice_get (λ (p : Member). All (TellApart is.registry p) is.members) is.members a first.0 is.tells first.1) second.1 in
+      let same = tells i j (rw first.2 less_i) (rw second.2 less_j) in (
+        λ e. subst (λ (p : ProgramModule). SameType (list_groups (list_of p.plan.now.types)) (list_groups (list_of n.plan.now.types)) i j) first.2
+            (subst (λ (q : ProgramModule). SameType (list_groups (list_of first.0.0.plan.now.types)) (list_groups (list_of q.plan.now.types)) i j) second.2
+            (same.0 (sym (one.types i) ∙ e ∙ two.types j))),
+        λ e. one.types i
+            ∙ same.1 (subst (λ (p : ProgramModule). SameType (list_groups (list_of p.plan.now.types)) (list_groups (list_of second.0.0.plan.now.types)) i j) (sym first.2)
+            (subst (λ (q : ProgramModule). SameType (list_groups (list_of m.plan.now.types)) (list_groups (list_of q.plan.now.types)) i j) (sym second.2) e))
+            ∙ sym (two.types j),
+      )

@@ -1,7 +1,10 @@
 -- A program: modules in order, each under a name. One registry has the types of all. The imports of
 -- each are given by the exports of those before it (core specification, 4.7, instantiation).
-use Rattle.std.specs.Prelude.{◌≡◌, ◌<◌, ◌≤◌, ◌+◌, ℕ, List, map, length, take, slice_get, All, Any, Some}
+use Rattle.std.specs.Prelude.{◌≡◌, ◌↔◌, ◌<◌, ◌≤◌, ◌+◌, ℕ, List, map, length, take, slice_get, All, Any, Some}
 use Rattle.std.specs.List.{flat_map, sum_by}
+use Rattle.type_spec.specs.Equality.{SameType}
+use Rattle.module_types.specs.ListGroups.{list_groups}
+use Rattle.module_types.specs.Listed.{list_of}
 use Rattle.wasm_index.specs.Index.{number_of}
 use Rattle.wasm_module.specs.Record.{record_of}
 use Rattle.type_registry.specs.declared.key.ModuleKey.{ModuleKey}
@@ -63,6 +66,13 @@ pub record IsProgram (modules : List ProgramModule) (results : List LinkedModule
   pub tells : All (λ (a : Member). All (TellApart registry a) members) members
   -- with its indices, imports are answered by the exports of the modules before
   pub linked : AreLinked registry members results
+
+-- two types of two modules have one index exactly where they are equal by group and position
+abbrev pub ShareIndices : List ProgramModule → List LinkedModule → Type 0
+ShareIndices modules results = (a b : ℕ) (m n : ProgramModule) (x y : LinkedModule) → slice_get modules a ≡ Some m → slice_get modules b ≡ Some n
+    → slice_get results a ≡ Some x → slice_get results b ≡ Some y → (i j : ℕ) → i < length m.plan.now.types.types → j < length n.plan.now.types.types
+    → (slice_get (map number_of x.types.items) i ≡ slice_get (map number_of y.types.items) j)
+    ↔ SameType (list_groups (list_of m.plan.now.types)) (list_groups (list_of n.plan.now.types)) i j
 
 -- each import that is given, is given an export before the module's own
 abbrev pub GivesEarlier : LinkedModule → Type 0

@@ -2,7 +2,7 @@
 
 ghost use Rattle.std.specs.Prelude.{◌≡◌, ◌↔◌, ◌≤◌, ◌⊎◌, ℕ, All, IfOk, IsOk, IsErrOf};
 ghost use Rattle.plan_link.specs.declared.program_error.ProgramError.TheVariants as refused;
-ghost use Rattle.plan_link.specs.Program.{IsPlannedModule, IsProgram, GivesEarlier, IsDuplicate, IsCrowded, count_types, capacity};
+ghost use Rattle.plan_link.specs.Program.{IsPlannedModule, IsProgram, ShareIndices, GivesEarlier, IsDuplicate, IsCrowded, count_types, capacity};
 
 use crate::answer::ImportAnswer;
 use crate::laws::planned_can_link;
@@ -49,6 +49,7 @@ pub fn link_program(
 ) -> Result<Vec<LinkedModule>, ProgramError>
     requires { All IsPlannedModule modules.now }
     ensures linked { IfOk result (λ linked. IsProgram modules.now linked.items) }
+    ensures types { IfOk result (λ linked. ShareIndices modules.now linked.items) }
     ensures earlier { IfOk result (λ linked. All GivesEarlier linked.items) }
     ensures crowded { (k : ℕ) → IsErrOf result (refused.TooManyTypes k) ↔ IsCrowded modules.now k }
     ensures duplicate { (k : ℕ) → IsErrOf result (refused.Duplicate k) → IsDuplicate modules.now k }

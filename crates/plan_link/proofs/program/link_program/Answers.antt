@@ -4,7 +4,7 @@ use Rattle.plan_link.specs.declared.program_error.ProgramError.TheVariants as re
 use Rattle.plan_link.specs.Program.{IsPlannedModule, IsCrowded}
 use Rattle.plan_link.specs.Members.{IsLinkableModule, AreHeld}
 use Rattle.plan_link.proofs.Outcomes.{if-ok}
-use Rattle.plan_link.proofs.Programs.{crowded-once, program-of, program-below, repeated-of, complete-of}
+use Rattle.plan_link.proofs.Programs.{crowded-once, program-of, program-below, program-shares, repeated-of, complete-of}
 use Rattle.plan_link.proofs.program.link_program.Goals as goal
 
 pub returns-in-Some-clause-crowded : goal.returns-in-Some-clause-crowded
@@ -31,6 +31,18 @@ returns-clause-linked c =
     if-ok c.link_members.result _ _
     (λ linked is. program-of c.same_law.ensures c.register_all.new.registry ms c.deref.result.now
     (subst (AreHeld c.register_all.new.registry ms) (sym c.deref.ensures.value) c.in_ok-keys.ensures) linkable linked.items is)
+    c.link_members.ensures.linked
+
+pub returns-clause-types : goal.returns-clause-types
+returns-clause-types c =
+    let ms = c.args.modules.now in
+    let linkable =
+    All-weaker IsPlannedModule IsLinkableModule (λ m p. c.planned_can_link.ensures.linkable p.options p.bytes m.plan.now p.planned) ms c.requires
+    in
+    if-ok c.link_members.result _ _
+    (λ linked is. program-shares ms linked.items
+    (program-of c.same_law.ensures c.register_all.new.registry ms c.deref.result.now
+    (subst (AreHeld c.register_all.new.registry ms) (sym c.deref.ensures.value) c.in_ok-keys.ensures) linkable linked.items is))
     c.link_members.ensures.linked
 
 pub returns-clause-earlier : goal.returns-clause-earlier
