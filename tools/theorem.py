@@ -26,7 +26,7 @@ HEAD = """\
 # The theorem
 
 `tools/audit --write` writes this page from the sources. `tools/audit` fails where the page differs from them.
-It has the sentence, the contract that says it, and the definitions on the way from the one to the other, each whole.
+It has the sentence, the contract that says it, and the main definitions on the way from the one to the other, each whole.
 [PROVED](PROVED.md) says which clause carries which words. [DEFINITIONS](DEFINITIONS.md) lists those it depends on.
 
 ## The sentence
