@@ -1,1 +1,2 @@
+pub mod ListedLists
 pub mod Registered

@@ -1,15 +1,26 @@
-//! Tests of whole programs: modules are translated, registered and linked by `type_registry`,
-//! `import_match` and `plan_link`.
+//! Tests of `type_registry`, `import_match` and `plan_link`, alone and together.
 //!
-//! `two_modules` has a program of two modules, `plans` two plans that are linked, `programs` three.
+//! `registrations` lists registrations and releases of what `modules` and `lists` have. `rules` has
+//! the rules of matching, and `definitions` what a linker defines and refuses. `two_modules` has a
+//! program of two modules, `plans` two plans that are linked, `programs` three.
 #![tactic(auto)]
 
+#[cfg(test)]
+mod definitions;
+#[cfg(test)]
+mod lists;
+#[cfg(test)]
+mod modules;
 #[cfg(test)]
 mod plans;
 #[cfg(test)]
 mod programs;
 #[cfg(test)]
+mod registrations;
+#[cfg(test)]
 mod rows;
+#[cfg(test)]
+mod rules;
 #[cfg(test)]
 mod translated;
 #[cfg(test)]

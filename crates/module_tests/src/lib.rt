@@ -1,12 +1,30 @@
-//! Tests of single calls on records: the module record, the list of interned types, and its
-//! builder.
+//! Tests of single calls, also in ways that the planner does not call them.
 //!
-//! They call `wasm_module` and `module_types`, also in ways that the planner does not.
+//! `maps` and `memories` test `entity_map` and `paged_memory`. `types`, `visits` and `conversions`
+//! test `wasm_types`, `wasm_trace` and `wasm_convert`; `records`, `groups` and `builders` test
+//! `wasm_module` and `module_types`; `objects`, `structs` and `contexts` test `gc_layout`,
+//! `vm_structs` and `vm_offsets`.
 #![tactic(auto)]
 
 #[cfg(test)]
 mod builders;
 #[cfg(test)]
+mod contexts;
+#[cfg(test)]
+mod conversions;
+#[cfg(test)]
 mod groups;
 #[cfg(test)]
+mod maps;
+#[cfg(test)]
+mod memories;
+#[cfg(test)]
+mod objects;
+#[cfg(test)]
 mod records;
+#[cfg(test)]
+mod structs;
+#[cfg(test)]
+mod types;
+#[cfg(test)]
+mod visits;

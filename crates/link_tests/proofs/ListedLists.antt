@@ -5,7 +5,7 @@ use Rattle.std.proofs.lemmas.List.Elements.{All-nil, All-cons}
 use Rattle.module_types.specs.TypeList.{TypeList, no_types}
 use Rattle.module_types.specs.Listed.{Listed}
 use Rattle.module_types.proofs.ListedLists.{listed}
-use Rattle.registry_tests.specs.Lists.{startup, twice}
+use Rattle.link_tests.specs.Lists.{startup, twice}
 
 none-below : (n : ℕ) → All (λ r. r < n) []
 none-below n = All-nil (λ r. r < n)

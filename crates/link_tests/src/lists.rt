@@ -2,7 +2,7 @@
 
 ghost use Rattle.std.specs.Prelude.{◌≡◌, ◌<◌, length, IfOk, OnOk};
 ghost use Rattle.module_types.specs.Listed.{Listed};
-ghost use Rattle.registry_tests.specs.Lists.{function, alone, startup, twice};
+ghost use Rattle.link_tests.specs.Lists.{function, alone, startup, twice};
 
 use entity_map::OutOfMemory;
 use module_types::ModuleTypes;

@@ -1,5 +1,5 @@
 use Rattle.std.proofs.Common.{refl}
-use Rattle.layout_tests.proofs.objects.shared_layouts_tell_size_and_alignment.Goals as goal
+use Rattle.module_tests.proofs.objects.shared_layouts_tell_size_and_alignment.Goals as goal
 
 pub layout-requires : goal.layout-requires
 layout-requires g c = (4, refl)
