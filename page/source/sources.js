@@ -54,7 +54,8 @@ class Sources extends Origins {
     return source;
   }
 
-  // A body, whose offset debug information counts from the begin of the section's contents, and its code behind the locals.
+  // A body, whose offset debug information counts from the begin of the section's contents, and its
+  // code behind the locals.
   bodyFacts(own, body) {
     const { code } = this.plan.bodies.get(own), place = body.from - this.plan.code_section_offset;
     return [

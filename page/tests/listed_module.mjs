@@ -1,4 +1,5 @@
-// A module of some of everything, made by hand, and where its parts stand: each place is counted here, from the pieces.
+// A module of some of everything, made by hand, and where its parts stand: each place is counted
+// here, from the pieces.
 import { HEADER, name, section, unsigned } from "./modules.mjs";
 
 const END = 0x0b, FUNCTION = 0x00, GLOBAL = 0x03;
@@ -38,7 +39,8 @@ const CUSTOMS = {
   odd: [0x01, 0x41, 0x42],
 };
 
-// The bytes, and of each list the begin and the end of each line. Items stand one behind the other, behind their count.
+// The bytes, and of each list the begin and the end of each line. Items stand one behind the other,
+// behind their count.
 export function listedModule() {
   const known = [[1, TYPES], [2, IMPORTS], [3, [[0x00], [0x01], [0x02]]], [4, [[0x70, 0x00, 0x0a]]], [5, [[0x00, 0x01]]], [6, GLOBALS], [7, EXPORTS], [9, ELEMENTS]];
   const bodies = BODIES.map(body => [...unsigned(body.length), ...body]), made = [Buffer.from(HEADER)], places = { sections: [] };

@@ -1,4 +1,5 @@
-// The checks of the lists that need no browser. What must come is written down here by the format, or counted from the pieces of a module.
+// The checks of the lists that need no browser. What must come is written down here by the format,
+// or counted from the pieces of a module.
 import { join } from "node:path";
 import { readModules } from "./cases.mjs";
 import { listedModule, manyFunctions, CPP_NAME, RUST_NAME } from "./listed_module.mjs";
@@ -130,7 +131,8 @@ function checkMany({ told, linesOf, report }) {
   report(`of ${words(MANY_SEGMENTS)} segments the largest and the last come in ${segments.took} s`, () => segments.first.index === 0 && segments.end.index === last && segments.end.place === words(last));
 }
 
-// Of each case that is planned: expressions from the tables against the lines of the text, and items that the script reads against the planner's.
+// Of each case that is planned: expressions from the tables against the lines of the text, and
+// items that the script reads against the planner's.
 function checkCases({ parts, told, root, report }) {
   const wrong = [], counts = { words: 0, items: 0 };
   for (const { file, name, bytes, words } of readModules(join(root, "crates/plan_cases/data"))) {
