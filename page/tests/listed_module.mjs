@@ -67,6 +67,15 @@ export function listedModule() {
   return { bytes: Buffer.concat(made), places };
 }
 
+// Two functions of two parameters and two locals, whose names are in the name section.
+export function namedLocals() {
+  const type = [0x60, 0x02, 0x7f, 0x7e, 0x00], body = [0x04, 0x01, 0x02, 0x7c, END];
+  const first = [[0x00, ...name("first")], [0x01, ...name("second")], [0x02, ...name("sum")]], second = [[0x03, ...name("last")]];
+  const names = part(2, list([[0x00, ...list(first)], [0x01, ...list(second)]]));
+  const counted = (id, items) => section(id, [unsigned(items.length), ...items]);
+  return Buffer.concat([Buffer.from(HEADER), counted(1, [type]), counted(3, [[0x00], [0x00]]), counted(10, [body, body]), section(0, [name("name"), names])]);
+}
+
 // A module of so many functions, of which one in a thousand is longer.
 export function manyFunctions(count) {
   const bodies = Buffer.concat(Array.from({ length: count }, (_, i) => Buffer.from(i % 1000 ? [0x02, 0x00, END] : [0x04, 0x00, 0x01, 0x01, END])));

@@ -2,7 +2,7 @@
 // or counted from the pieces of a module.
 import { join } from "node:path";
 import { readModules } from "./cases.mjs";
-import { listedModule, manyFunctions, CPP_NAME, RUST_NAME } from "./listed_module.mjs";
+import { listedModule, manyFunctions, namedLocals, CPP_NAME, RUST_NAME } from "./listed_module.mjs";
 import { manySegments } from "./modules.mjs";
 
 const WORDS = ["--cow", "--lazy-tables"];
@@ -18,6 +18,7 @@ export function checkLists({ parts, told, root, report }) {
   checkListed({ told, linesOf, same });
   checkCustoms({ told, linesOf, same });
   checkSources({ parts, of: told(listedModule().bytes, WORDS), same });
+  checkLocals({ parts, told, same });
   checkOrder({ parts, told, linesOf, same, report });
   checkBroken({ told, linesOf, same });
   checkMany({ told, linesOf, report });
@@ -91,6 +92,16 @@ function checkSources({ parts, of, same }) {
   same("the source of a custom section has all that is in it", [facts("custom", 0).needs, facts("custom", 2)["processed-by"]], ["libc.so, libm.so", "rustc 1.80.0, clang 18"]);
   const lines = ["anySection", "function", "global", "element", "datum", "import", "export"].map(kind => new parts.Origins(of).of(kind, 1).facts.some(it => it.bytes));
   same("each line of each list has bytes in its source", lines, Array(7).fill(true));
+}
+
+// Names of parameters and locals, by function, where the option keeps them.
+function checkLocals({ parts, told, same }) {
+  const named = words => [0, 1].map(index => {
+    const { facts } = new parts.Origins(told(namedLocals(), words)).of("function", index);
+    return ["names of parameters", "names of locals"].map(label => facts.find(it => it.label === label)?.text ?? null);
+  });
+  same("a function shows the names of its parameters and locals", named(["--native-debug"]), [["0 “first”, 1 “second”", "2 “sum”"], [null, "3 “last”"]]);
+  same("and has none without the option", named([]), [[null, null], [null, null]]);
 }
 
 // By size: the largest first, equal ones in order.
