@@ -196,6 +196,9 @@ impl WasmFuncType {
     }
 
     /// An equal type.
+    ///
+    /// # Errors
+    /// `OutOfMemory` where the copy finds no memory.
     pub fn try_clone(&self, alloc: Global) -> Result<Self, OutOfMemory>
         ensures { IfOk result (λ t. t ≡ self.now) }
     {
