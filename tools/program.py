@@ -14,7 +14,8 @@ from pathlib import Path
 HERE = Path(__file__).resolve().parent.parent
 TOOL = "translate_tool"
 OUT = HERE / "crates" / TOOL / "out"
-# What is proved here, and what is compiled here without proofs; beside each stands SHA256, as beside dist/translate.
+# What is proved here, and what is compiled here without proofs; beside each stands SHA256, as
+# beside dist/translate.
 PROVED, UNPROVED = OUT / TOOL, OUT / "unproved" / TOOL
 TARGET = "x86_64-unknown-linux-gnu"
 

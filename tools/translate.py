@@ -30,7 +30,8 @@ BEGINS = "a module begins with the bytes 00 61 73 6d 01 00 00 00"
 GIGA = 1 << 30
 LEAST_DISK, MUCH_DISK, MUCH_MEMORY = 3 * GIGA, 10 * GIGA, 8 * GIGA
 
-# For the time that is left: a crate counts its lines of code and as many more, and a line takes this long until some are proved.
+# For the time that is left: a crate counts its lines of code and as many more, and a line takes
+# this long until some are proved.
 LINES_A_CRATE = 100
 SECONDS_A_LINE = 0.35
 

@@ -1,4 +1,5 @@
-/* Copies 64 MiB so many times by memcpy: into memory that is asked for and given back each time, or into the same. */
+/* Copies 64 MiB so many times by memcpy: into memory that is allocated and freed each time, or into
+ * the same. */
 typedef unsigned long size_t;
 void *malloc(size_t), free(void *);
 void *memcpy(void *, const void *, size_t), *memset(void *, int, size_t);

@@ -15,6 +15,10 @@
  * arguments and writes its own results. Memory comes from malloc. The caller owns what a call returns,
  * and `.._free` frees it. Bodies and types of references are not validated.
  *
+ * No pointer that is passed may be null, also where its length is 0. A record begins as its `.._init`
+ * returns it; one of zeros has null pointers. `.._free` leaves it so again: it may be freed twice, and
+ * filled again. Of a record that was copied, free one copy.
+ *
  * Images: if a kept element segment (`elements`) can trap, write the elements before you map images, or
  * make the instance's memories zeros after such a trap: code in an imported table could see data that is
  * never written. If you map no image and write each segment yourself, there is no exception. */
@@ -931,7 +935,7 @@ typedef struct {
  * freed.
  *
  *   PLANNED        the plan is complete; bobbinazure_plan_free frees it
- *   REFUSED        its first three fields say why
+ *   REFUSED        its first three fields say why; its lists stay empty, so nothing has to be freed
  *   NO_MEMORY      it has the lists that were made; bobbinazure_plan_free frees them
  *   WRONG_OPTIONS  it is unchanged */
 uint32_t bobbinazure_make_plan(const uint8_t *bytes, size_t len, const bobbinazure_options *options,
@@ -955,7 +959,8 @@ uint32_t bobbinazure_make_plan_and_text(const uint8_t *bytes, size_t len, const 
  * point into the bytes of the modules.
  *
  *   PLANNED        it has an answer for each import, found or not; bobbinazure_link_free frees them
- *   REFUSED        its first four fields say which module is refused, the first where both are, and why
+ *   REFUSED        its first four fields say which module is refused, the first where both are, and
+ *                  why; it has no answers
  *   NO_MEMORY      it is unchanged
  *   WRONG_OPTIONS  it is unchanged; so it is where the name is not UTF-8 */
 uint32_t bobbinazure_link(const uint8_t *exporter, size_t exporter_len, const uint8_t *importer, size_t importer_len,
@@ -1066,7 +1071,8 @@ static inline bobbinazure_section_list bobbinazure_sections_init(void) {
     return list;
 }
 
-/* Frees what a call filled, and leaves empty lists. A plan that no call filled may be freed too. */
+/* Frees what a call filled, and leaves the plan as bobbinazure_plan_init returns it. A plan that no call
+ * filled may be freed too. */
 static inline void bobbinazure_plan_free(bobbinazure_plan *plan) {
     for (size_t i = 0; i < plan->runtime.len; i++)
         if (plan->runtime.at[i].made && plan->runtime.at[i].bytes.len)

@@ -1,5 +1,6 @@
 /* json plan [OPTION].. < FILE.wasm : prints the plan of a module as one JSON object, out of the tables alone.
- * json locate < FILE.wasm : prints where and why a module is malformed, invalid or not supported, as one line.
+ * json locate < FILE.wasm : prints where and why a module is malformed, invalid or not supported, as
+ *                           one line.
  *
  * keys.txt has the keys. The words and the exit status are those of the program dist/translate. */
 #include "layouts.h"
@@ -464,7 +465,8 @@ static int read_number(const char *at, uint64_t *result) {
     return 1;
 }
 
-/* Sets an option by its word. Gives a number of its own for each option, as a bit; none where the word is wrong. */
+/* Sets an option by its word. Gives a number of its own for each option, as a bit; none where the
+ * word is wrong. */
 static int set_option(bobbinazure_options *options, const char *option) {
     if (!strcmp(option, "--cow")) return options->cow = 1, 1;
     if (!strcmp(option, "--lazy-tables")) return options->lazy_tables = 1, 2;

@@ -1,4 +1,5 @@
-//! Links the static library: that of the folder that BOBBINAZURE_LIB names, else that of dist/, where it is built from the sources of this repository.
+//! Links the static library: that of the folder that BOBBINAZURE_LIB names, else that of dist/,
+//! where it is built from the sources of this repository.
 
 use std::path::{Path, PathBuf};
 use std::process::Command;

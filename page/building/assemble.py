@@ -9,7 +9,8 @@ HERE = Path(__file__).resolve().parent.parent
 SOURCE = HERE / "source"
 EXAMPLES = HERE.parent / "examples"
 
-# Each list in the order in which its files need one another. The worker's files are run in node too, by the checks.
+# Each list in the order in which its files need one another. The worker's files are run in node
+# too, by the checks.
 WORKER = ["words", "planner", "lines", "reading", "places", "operators", "externals", "told", "rust_names", "cpp_types", "cpp_names", "names"]
 WORKER += ["customs", "items", "contents", "origins", "sources", "comparing", "linking", "worker"]
 PAGE = ["words", "asking", "parts", "paging", "memories", "tables", "contexts", "lists", "legend", "text", "dialogs", "answers", "imports", "comparison", "page"]

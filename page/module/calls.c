@@ -1,4 +1,5 @@
-// The inline functions of the C interface's header, as calls of the module: what they fill and free is written there alone.
+// The inline functions of the C interface's header, as calls of the module: what they fill and free
+// is written there alone.
 #include "bobbinazure.h"
 
 #define CALL(name) __attribute__((export_name(#name))) void name

@@ -1,6 +1,7 @@
-// The heap of the page's module: what the planner takes its memory from. Freed blocks of each size class are kept in a list; new ones come
-// from the end of the memory, which grows. Blocks are never joined, which is enough here: each module is planned in a memory of its own.
-// There is one thread. Nothing proves this file.
+// The heap of the page's module: what the planner takes its memory from. Freed blocks of each size
+// class are kept in a list; new ones come from the end of the memory, which grows. Blocks are never
+// joined, which is enough here: each module is planned in a memory of its own. There is one thread.
+// Nothing proves this file.
 typedef unsigned long long u64;
 typedef unsigned char u8;
 
@@ -20,7 +21,8 @@ typedef struct Block {
 static Block *freed[CLASSES];
 static u64 top;
 
-// The bytes of a block with its head. From one class to the next they grow by a quarter of a power of two, so four classes double them.
+// The bytes of a block with its head. From one class to the next they grow by a quarter of a power
+// of two, so four classes double them.
 static u64 size_of_class(u64 class) {
     return ((4 + class % 4) << (class / 4) << 3) + 15 & ~15ULL;
 }
@@ -33,12 +35,14 @@ static u64 class_of(u64 size) {
     return (high - 2) * 4 + (eighths >> (high - 2) & 3) + 1;
 }
 
-// Whether the memory grew by so many pages. Refused, the answer is -1: of 64 bits or, where the memory was made narrow, of 32.
+// Whether the memory grew by so many pages. Refused, the answer is -1: of 64 bits or, where the
+// memory was made narrow, of 32.
 static int grow(u64 pages) {
     return (int)__builtin_wasm_memory_grow(0, pages) != -1;
 }
 
-// Bytes at the end of the memory that were never given out. It grows by an eighth at least, so that growing is rare.
+// Bytes at the end of the memory that were never given out. It grows by an eighth at least, so that
+// growing is rare.
 static Block *fresh(u64 size) {
     if (top == 0) top = (u64)&__heap_base + 15 & ~15ULL;
     u64 end = top + size, now = __builtin_wasm_memory_size(0) * PAGE;

@@ -1,8 +1,9 @@
 // Two plans side by side.
 
-// Gives each type of a plan a number that equal types of all plans share. A group of types is made into words in which a type of the group is
-// named by its place there, and another one by its number: two groups are equal where these words are. Types that a group names stand before
-// it, so they have their numbers, and each group is looked at once.
+// Gives each type of a plan a number that equal types of all plans share. A group of types is made
+// into words in which a type of the group is named by its place there, and another one by its
+// number: two groups are equal where these words are. Types that a group names stand before it, so
+// they have their numbers, and each group is looked at once.
 class Numbering {
   constructor() {
     this.known = new Map();
@@ -52,7 +53,8 @@ class Comparison {
     return this.pairs.slice(from, to).map(([ours, theirs]) => ({ one: ours, other: theirs, words: ours === null ? this.other.typeWords(theirs) : this.one.typeWords(ours) }));
   }
 
-  // The images of each memory that one of them has: where they begin, and where they differ, by address and from the begin of their data on. The first hundred memories are looked at.
+  // The images of each memory that one of them has: where they begin, and where they differ, by
+  // address and from the begin of their data on. The first hundred memories are looked at.
   images() {
     const last = Math.min(100, Math.max(this.one.plan.memories.length, this.other.plan.memories.length)), rows = [];
     for (let memory = 0; memory < last; memory++) {
@@ -66,7 +68,8 @@ class Comparison {
     return Math.max(this.one.places.data.length, this.other.places.data.length);
   }
 
-  // Data segments of both by their numbers, byte by byte from where each begins: wherever it is written, and where it is not written at all.
+  // Data segments of both by their numbers, byte by byte from where each begins: wherever it is
+  // written, and where it is not written at all.
   segments(from, to) {
     const told = (side, index) => (index < side.places.data.length ? { ...side.contents.line("data", index), preview: null } : null);
     const dataOf = (side, { bytes: { from: begin, to: end } }) => ({ at: 0, bytes: side.module.subarray(begin, end) });
@@ -98,7 +101,8 @@ function placeWords({ at, bytes, runtime }) {
   return { at, length: bytes.length, runtime };
 }
 
-// How many bytes differ, and the first of them. Where an image ends the memory has zeros; where neither is nothing is looked at.
+// How many bytes differ, and the first of them. Where an image ends the memory has zeros; where
+// neither is nothing is looked at.
 function difference(ours, theirs) {
   const ends = [ours, theirs].flatMap(it => (it ? [it.at, it.at + it.bytes.length] : [])).sort((one, other) => one - other);
   let differing = 0, first = null;
@@ -119,7 +123,8 @@ function fromData(image) {
   return { begins: begin < 0 ? null : image.at + begin, at: 0, bytes: image.bytes.subarray(Math.max(0, begin)) };
 }
 
-// The same where both are laid so that their data begin at one place: a module that is linked to other addresses has its data elsewhere.
+// The same where both are laid so that their data begin at one place: a module that is linked to
+// other addresses has its data elsewhere.
 function relativeDifference(ours, theirs) {
   if (!ours || !theirs) return null;
   const [one, other] = [ours, theirs].map(fromData);

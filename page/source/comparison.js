@@ -7,7 +7,8 @@ function comparisonOf(summary, ask, plans) {
   return [countsCard(summary, names), sharedTypesCard(summary, ask, names), imagesCard(summary, plans), segmentsCard(summary, ask, plans), contextsCard(summary, plans), importsCard(ask, plans)];
 }
 
-// Data segments of both, side by side by their numbers. Those of modules that an engine moves have no image, and passive ones have none either.
+// Data segments of both, side by side by their numbers. Those of modules that an engine moves have
+// no image, and passive ones have none either.
 function segmentsCard({ segments }, ask, plans) {
   const [one, other] = plans.map(plan => plan.summary.name), label = "data segments of both";
   if (!segments) return card("Data segments of both: none");

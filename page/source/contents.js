@@ -1,5 +1,5 @@
-// The lists of what is in a module, line by line. Types, values, items, and where bodies end, come from the planner's tables; where
-// all else stands, `places.js` found.
+// The lists of what is in a module, line by line. Types, values, items, and where bodies end, come
+// from the planner's tables; where all else stands, `places.js` found.
 
 const FEW_ITEMS = 6;
 
@@ -14,7 +14,8 @@ class Contents {
     this.names = new Names(told);
   }
 
-  // How many lines each list has. Of a module that is refused it is the sections alone, as far as they were read.
+  // How many lines each list has. Of a module that is refused it is the sections alone, as far as
+  // they were read.
   counts() {
     const { sections, elements, data } = this.places, customs = this.customSections.length;
     if (!this.told.isPlanned) return { sections: sections.length, customs };
@@ -126,14 +127,16 @@ class Contents {
     return { memory, place, full: countFull(this.module, begin, begin + length), preview: this.module.slice(begin, begin + Math.min(length, PREVIEW)) };
   }
 
-  // The words of an expression that is a segment's place. Where memories begin as images the tables have no words for it.
+  // The words of an expression that is a segment's place. Where memories begin as images the tables
+  // have no words for it.
   expressedPlace(index) {
     const own = indexIn(this.told.activeData, i => this.told.activeData[i], index), { segments, segment_places: places, images_made } = this.plan;
     return images_made || own >= segments.length ? "an expression" : expressionWords(places, own, this.numbers);
   }
 }
 
-// Where the entries of the code section begin. The planner says where the code of each body ends, and the length before a body is one number.
+// Where the entries of the code section begin. The planner says where the code of each body ends,
+// and the length before a body is one number.
 class Bodies {
   constructor({ plan: { bodies, code_section_offset: begin }, module, answer: { input } }) {
     const at = bodies.column("code", "at"), length = bodies.column("code", "len");
@@ -161,7 +164,8 @@ class Bodies {
   }
 }
 
-// Numbers from 0 up by their sizes: the largest first, and equal ones in order. Size and number are one key, so that a million are sorted at once.
+// Numbers from 0 up by their sizes: the largest first, and equal ones in order. Size and number are
+// one key, so that a million are sorted at once.
 function largestFirst(sizes) {
   const { length } = sizes;
   let most = 0;

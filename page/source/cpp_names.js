@@ -1,7 +1,9 @@
-// Names that a compiler of C++ made, as they are in the source: by the Itanium ABI. What is not of this form, or of a rarer part of it, gives null.
+// Names that a compiler of C++ made, as they are in the source: by the Itanium ABI. What is not of
+// this form, or of a rarer part of it, gives null.
 //
-// Reading makes a call of each part, and the call makes its words at the end: a part of which a pack of arguments is a part has other words
-// for each of these. The words of a type are of two halves, around what is declared: `void (*` and `)(int)`.
+// Reading makes a call of each part, and the call makes its words at the end: a part of which a
+// pack of arguments is a part has other words for each of these. The words of a type are of two
+// halves, around what is declared: `void (*` and `)(int)`.
 
 const CPP_TYPES = {
   v: "void", w: "wchar_t", b: "bool", c: "char", a: "signed char", h: "unsigned char", s: "short", t: "unsigned short", i: "int", j: "unsigned int", l: "long",

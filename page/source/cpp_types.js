@@ -1,6 +1,7 @@
 // The types and expressions of names that a compiler of C++ made: what `cpp_names.js` reads names of.
 
-// Packs and references back may double a name again and again, so there is an end: of the parts that are made, and of the letters of one.
+// Packs and references back may double a name again and again, so there is an end: of the parts
+// that are made, and of the letters of one.
 const MOST_PARTS = 3000;
 const MOST_LETTERS = 4000;
 
@@ -207,7 +208,8 @@ class CppTypes {
     }
   }
 
-  // What was read before: by its number, or a name of the standard library. `isClass` where a constructor or destructor follows.
+  // What was read before: by its number, or a name of the standard library. `isClass` where a
+  // constructor or destructor follows.
   substitution(isClass = false) {
     this.expect("S");
     const letter = this.words[this.at] ?? "", standard = CPP_STANDARD[letter];

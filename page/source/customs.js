@@ -1,4 +1,5 @@
-// What is usual in custom sections, in words. The planner reads none of this but names and branch hints; all here is this script's reading.
+// What is usual in custom sections, in words. The planner reads none of this but names and branch
+// hints; all here is this script's reading.
 
 const FEW_FACTS = 40;
 
@@ -63,7 +64,8 @@ function readBuildId(cursor) {
   return [["build id", Array.from(cursor.bytes.subarray(from, Math.min(from + 64, cursor.at)), byte => hexOf(byte, 2)).join("").toLowerCase()]];
 }
 
-// Parts of a section that each have a number, a length and contents. `readers` has what is known, and `names` the names of others.
+// Parts of a section that each have a number, a length and contents. `readers` has what is known,
+// and `names` the names of others.
 function readParts(cursor, names, readers) {
   const facts = [];
   while (cursor.at < cursor.end && facts.length < 4 * FEW_FACTS) {

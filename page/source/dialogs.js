@@ -1,4 +1,5 @@
-// What opens over the page: the source of a part, and bytes. One opens over another, and the last one that closes gives back the keyboard.
+// What opens over the page: the source of a part, and bytes. One opens over another, and the last
+// one that closes gives back the keyboard.
 
 const opened = [];
 
@@ -62,7 +63,8 @@ function factParts(plan, { text, bytes, line }) {
 const SHOWN_BYTES = 512;
 const bytesInRow = () => (matchMedia("(max-width: 560px)").matches ? 8 : 16);
 
-// Bytes in rows. `base` is the address of the first; `marked` are the bytes that are meant. Where these come behind the last one, that is shown.
+// Bytes in rows. `base` is the address of the first; `marked` are the bytes that are meant. Where
+// these come behind the last one, that is shown.
 async function showBytes(plan, { of, index = 0, title, base, marked = null }) {
   const inRow = bytesInRow(), rowOf = place => place - (((place % inRow) + inRow) % inRow);
   const { length, next } = await plan.ask("bytes", { of, index, from: 0, to: 0 }), begin = marked ? rowOf(Math.min(marked.from, length - 1)) : 0;

@@ -1,4 +1,5 @@
-// What a plan's imports and exports are: names, kinds and types. Types stand in the words of the text, sizes in numbers.
+// What a plan's imports and exports are: names, kinds and types. Types stand in the words of the
+// text, sizes in numbers.
 
 const KINDS = ["function", "table", "memory", "global", "tag"];
 
@@ -55,7 +56,8 @@ class Externals {
     return this.told.typeWords(type).replace(/ trampoline \d+$/, "");
   }
 
-  // The names of modules that imports have, each with how many: those with the most first, and else as they come.
+  // The names of modules that imports have, each with how many: those with the most first, and else
+  // as they come.
   modules() {
     return (this.known ??= this.countModules());
   }

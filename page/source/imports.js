@@ -1,7 +1,8 @@
 // The imports of one module, and the exports of the other that match them.
 
-// Whose imports are looked for, and the name of a module under which the other's exports stand: where it is null, the one that the most of these
-// imports have. Where the matching was stopped, it begins again by a button alone.
+// Whose imports are looked for, and the name of a module under which the other's exports stand:
+// where it is null, the one that the most of these imports have. Where the matching was stopped, it
+// begins again by a button alone.
 const matching = { importer: "other", name: null, isStopped: false };
 
 function match(words) {

@@ -1,5 +1,6 @@
-// The items of element segments. Of a segment that startup writes, and of a passive one, the planner's tables have them. Of a segment that
-// became a part of a table's image, and of a declared one, this script reads them.
+// The items of element segments. Of a segment that startup writes, and of a passive one, the
+// planner's tables have them. Of a segment that became a part of a table's image, and of a declared
+// one, this script reads them.
 
 class Items {
   constructor({ plan, places, numbers, module, activeElements }) {

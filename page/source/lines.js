@@ -20,7 +20,8 @@ class Lines {
     return this.slice(index, index + 1)[0] ?? "";
   }
 
-  // For each first word of lines, where its lines begin and how many there are: they stand one after the other.
+  // For each first word of lines, where its lines begin and how many there are: they stand one
+  // after the other.
   kindsOfLines() {
     const kinds = new Map();
     let last = null;
@@ -54,8 +55,9 @@ class Lines {
     return found && index < found.count ? found.first + index : null;
   }
 
-  // The next line from here on that has these words, in upper or lower case; after the last one the first. With its number among the lines that
-  // have them, from 1 on, and how many these are. Null where there is none.
+  // The next line from here on that has these words, in upper or lower case; after the last one the
+  // first. With its number among the lines that have them, from 1 on, and how many these are. Null
+  // where there is none.
   find(words, from) {
     if (this.sought?.words !== words) this.sought = { words, lines: this.linesWith(words) };
     const { lines } = this.sought;

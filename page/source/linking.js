@@ -1,11 +1,12 @@
-// What the imports of one module are given by the exports of another. The planner answers, import by import; here its answers are only counted
-// and shown with the names and types of both.
+// What the imports of one module are given by the exports of another. The planner answers, import
+// by import; here its answers are only counted and shown with the names and types of both.
 
 const OFFERED = 1000;
 
 class Linking {
-  // `name` is the module's name under which the exports stand: where it is null, the one that the most imports have. The planner's memory holds
-  // both plans, so the answers are copied and it goes.
+  // `name` is the module's name under which the exports stand: where it is null, the one that the
+  // most imports have. The planner's memory holds both plans, so the answers are copied and it
+  // goes.
   constructor(planner, exporter, importer, name) {
     Object.assign(this, { exporter, importer, numbers: planner.layout.numbers });
     this.modules = importer.externals?.modules() ?? [];

@@ -1,4 +1,5 @@
-// The lists of what is in a module, of which one is shown at a time: sections, imports, exports, functions, globals, segments, custom sections.
+// The lists of what is in a module, of which one is shown at a time: sections, imports, exports,
+// functions, globals, segments, custom sections.
 
 // The list that was chosen last stays, where another module or other options are planned.
 let chosenList = "sections";

@@ -1,4 +1,5 @@
-// The memories of a plan. A view gets the plan that it shows: `plan.ask` asks the worker of it, and `plan.summary` says what it has.
+// The memories of a plan. A view gets the plan that it shows: `plan.ask` asks the worker of it, and
+// `plan.summary` says what it has.
 
 const PART = 100;
 const COLUMNS = 500;
@@ -60,7 +61,8 @@ function memoryPictures(plan, { index, span }, bytes) {
   return [...pictures, el("p", { class: "soft small" }, "the part that has data:"), part];
 }
 
-// A picture of a part of a memory. A click on it shows where the byte there comes from; the list below it has the same for the keyboard.
+// A picture of a part of a memory. A click on it shows where the byte there comes from; the list
+// below it has the same for the keyboard.
 function memoryPicture(plan, memory, from, to, label) {
   const range = `${label}, bytes ${spoken(from)} to ${spoken(to)}`;
   const picture = svg("svg", { viewBox: `0 0 ${COLUMNS} ${TALL}`, preserveAspectRatio: "none", role: "img", "aria-label": range });

@@ -1,5 +1,5 @@
-// What functions are called: by the name section, as the planner has it, or else by an import or export. And what a name means that a
-// compiler of Rust or C++ made.
+// What functions are called: by the name section, as the planner has it, or else by an import or
+// export. And what a name means that a compiler of Rust or C++ made.
 
 class Names {
   constructor(told) {

@@ -1,4 +1,5 @@
-// The source of a part of a plan: facts with the section, the index there and the bytes of the module, and the line of the text.
+// The source of a part of a plan: facts with the section, the index there and the bytes of the
+// module, and the line of the text.
 
 const REGIONS = {
   "static vmctx data": { what: "the same in every context: a mark, and pointers to the store, to built-in functions, to the epoch, to the heap of objects and to the types" },
@@ -119,7 +120,8 @@ class Origins {
     return { title: `passive data segment ${spoken(row.segment)}`, facts, runtime: row.runtime };
   }
 
-  // The first active element segments become images, and startup writes the others in order: they are the last ones.
+  // The first active element segments become images, and startup writes the others in order: they
+  // are the last ones.
   elements(index) {
     const row = this.plan.elements.get(index), source = this.told.activeElements[this.told.activeElements.length - this.plan.elements.length + index];
     const facts = [{ label: "writes", text: `${count(row.count, "element")} to table ${spoken(row.table)}` }];

@@ -205,8 +205,8 @@ function showFault(side, error) {
   sides[side] = null;
 }
 
-// What is shown: one plan, or both compared. Where one is planned anew, its answer comes with it. A comparison takes time, and is not shown where
-// something else was chosen meanwhile.
+// What is shown: one plan, or both compared. Where one is planned anew, its answer comes with it. A
+// comparison takes time, and is not shown where something else was chosen meanwhile.
 let answering = 0;
 
 async function showAnswer() {

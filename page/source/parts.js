@@ -31,7 +31,8 @@ function card(title, ...inside) {
   return el("section", { class: "card", "aria-labelledby": id }, el("h2", { id }, title), ...inside);
 }
 
-// A table with named columns; a column of numbers is named with "#" before it, and one of buttons is named "more". Each row is a list of nodes and words.
+// A table with named columns; a column of numbers is named with "#" before it, and one of buttons
+// is named "more". Each row is a list of nodes and words.
 function table(caption, columns, rows) {
   const classes = columns.map(name => (name.startsWith("#") ? "n" : name === "more" && "more"));
   const head = el("tr", {}, ...columns.map((name, i) => el("th", { scope: "col", class: classes[i] }, name.replace("#", ""))));
@@ -54,7 +55,8 @@ function boxed(label, inside) {
   return scrolled(label, inside, " tall");
 }
 
-// Says what happened: a line over the page, or over the dialog where one is open, for some seconds. A screen reader reads it too.
+// Says what happened: a line over the page, or over the dialog where one is open, for some seconds.
+// A screen reader reads it too.
 const SECONDS_SAID = 6;
 let saying = null;
 

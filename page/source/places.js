@@ -1,12 +1,14 @@
-// Where the parts of a module begin: its sections, and where it is planned the entries of those that the page shows. Nothing is judged here: at
-// which byte a module is refused, and why, the planner says.
+// Where the parts of a module begin: its sections, and where it is planned the entries of those
+// that the page shows. Nothing is judged here: at which byte a module is refused, and why, the
+// planner says.
 
 const SECTIONS = {
   0: "custom", 1: "type", 2: "import", 3: "function", 4: "table", 5: "memory", 6: "global", 7: "export", 8: "start", 9: "element",
   10: "code", 11: "data", 12: "data count", 13: "tag",
 };
 const HEADER = [0x00, 0x61, 0x73, 0x6d, 0x01, 0x00, 0x00, 0x00];
-// A name comes first in a custom section, and in these the number that is all. In each other one it is the number of entries.
+// A name comes first in a custom section, and in these the number that is all. In each other one it
+// is the number of entries.
 const OF_ONE_NUMBER = [8, 12];
 
 // The entries whose places are kept, by the ids of their sections.
@@ -81,7 +83,8 @@ function overTable(cursor) {
   if (hasValue) overExpression(cursor);
 }
 
-// What a segment begins with: its flags, and of an active one the index of the table or memory and where its address stands.
+// What a segment begins with: its flags, and of an active one the index of the table or memory and
+// where its address stands.
 function readHead(cursor) {
   const flags = cursor.count();
   if (flags & 1) return { flags, index: null, address: null };

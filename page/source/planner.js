@@ -1,5 +1,6 @@
-// The planner's module, and the records that it fills. LAYOUT tells where their fields stand; it is made from the header of the C interface
-// when the page is built, so nothing here knows a place by itself.
+// The planner's module, and the records that it fills. LAYOUT tells where their fields stand; it is
+// made from the header of the C interface when the page is built, so nothing here knows a place by
+// itself.
 
 const WIDTHS = { uint8_t: 1, uint16_t: 2, uint32_t: 4, uint64_t: 8, size_t: 8 };
 
@@ -72,7 +73,8 @@ class Planner {
     for (const at of [answer.input, ...Object.values(answer.places)]) this.free(at);
   }
 
-  // Where a module is refused, whose bytes stand here, and why: a record of this kind, or null where the call fills none.
+  // Where a module is refused, whose bytes stand here, and why: a record of this kind, or null
+  // where the call fills none.
   locate(kind, input, length) {
     const record = this.begun(kind), status = this.calls[LOCATORS[kind]](...[input, length, record].map(BigInt));
     const told = this.read(kind, record), place = status === this.layout.numbers.refused ? { ...told, sentence: told.sentence.text } : null;
@@ -81,7 +83,8 @@ class Planner {
     return place;
   }
 
-  // What each import of one module is given by the exports of another, which stand under the name of a module.
+  // What each import of one module is given by the exports of another, which stand under the name
+  // of a module.
   link(exporter, importer, name, options) {
     const inputs = [exporter, importer, new TextEncoder().encode(name)].map(bytes => [this.holding(bytes), bytes.length]);
     const places = { options: this.begun("options"), record: this.begun("link_record") };
@@ -130,7 +133,8 @@ class Planner {
   }
 }
 
-// A list in a planner's memory. Its rows are read when they are asked for, so a list of a million costs nothing until then.
+// A list in a planner's memory. Its rows are read when they are asked for, so a list of a million
+// costs nothing until then.
 class Rows {
   constructor(planner, kind, at, length) {
     Object.assign(this, { planner, kind, at, length });
@@ -148,8 +152,8 @@ class Rows {
     return this.column(name)(index);
   }
 
-  // One number of each row, or of a record in it: a call that is as quick as can be, for lists that are gone through whole. The memory must not
-  // grow meanwhile.
+  // One number of each row, or of a record in it: a call that is as quick as can be, for lists that
+  // are gone through whole. The memory must not grow meanwhile.
   column(name, inner = null) {
     const { view, layout } = this.planner, field = layout.records[this.kind].fields[name];
     const { at, number } = inner === null ? field : layout.records[field.record].fields[inner];

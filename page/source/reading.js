@@ -1,5 +1,6 @@
-// Reads bytes by the grammar of modules. What is planned is well formed, so nothing is checked here but that the bytes go on: those of a custom
-// section may end too early, and those of a module that is refused.
+// Reads bytes by the grammar of modules. What is planned is well formed, so nothing is checked here
+// but that the bytes go on: those of a custom section may end too early, and those of a module that
+// is refused.
 
 // Reading stops here.
 class Stop extends Error {}

@@ -1,5 +1,6 @@
-// Names that a compiler of Rust made, as they are in the source. There are two ways: the older one begins with _ZN and ends with a hash, the
-// newer one (v0, RFC 2603) begins with _R. What is not of one of these forms gives null.
+// Names that a compiler of Rust made, as they are in the source. There are two ways: the older one
+// begins with _ZN and ends with a hash, the newer one (v0, RFC 2603) begins with _R. What is not of
+// one of these forms gives null.
 
 function rustName(name) {
   const plain = name.replace(/\.llvm\.[0-9A-F@]+$/, "");
@@ -291,7 +292,8 @@ class NewerRustName {
   }
 }
 
-// A name with other letters than those of the alphabet, as punycode (RFC 3492) has it, with an underscore in place of the last hyphen.
+// A name with other letters than those of the alphabet, as punycode (RFC 3492) has it, with an
+// underscore in place of the last hyphen.
 function decodedName(words) {
   const last = words.lastIndexOf("_"), letters = last > 0 ? [...words.slice(0, last)] : [], digits = words.slice(last + 1);
   let place = 0, sign = 128, bias = 72, isFirst = true;

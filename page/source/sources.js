@@ -34,6 +34,7 @@ class Sources extends Origins {
     else {
       facts.push(...this.bodyFacts(own, bodies.body(own)));
     }
+    facts.push(...this.localNames(index));
     facts.push({ label: "escapes", text: this.escapeWords(plan.escapes.get(index)) }, ...this.hintsOf(index));
     const exported = told.externals.exportWords(0, index), line = indexIn(plan.function_names, plan.function_names.column("function"), index);
     if (exported !== null) facts.push({ label: "exports", text: exported });
@@ -54,7 +55,8 @@ class Sources extends Origins {
     return source;
   }
 
-  // A body, whose offset debug information counts from the begin of the section's contents, and its code behind the locals.
+  // A body, whose offset debug information counts from the begin of the section's contents, and its
+  // code behind the locals.
   bodyFacts(own, body) {
     const { code } = this.plan.bodies.get(own), place = body.from - this.plan.code_section_offset;
     return [
@@ -69,6 +71,23 @@ class Sources extends Origins {
     const { begin, len } = this.plan.bodies.get(own).locals, runs = this.plan.locals.slice(begin, begin + Math.min(len, MOST));
     const words = runs.map(({ count: many, value }) => `${spoken(many)} of ${valueWords(value, this.told.numbers)}`);
     return joined([...words, len > MOST && `and ${spoken(len - MOST)} more runs`]) || "none";
+  }
+
+  // The names of a function's parameters and locals, which the planner keeps with --native-debug.
+  localNames(index) {
+    const { local_names: names, functions, interned } = this.plan, of = names.column("function"), local = names.column("local");
+    const first = indexIn(names, of, index), { fields, results } = interned.get(functions.get(index));
+    if (first === null) return [];
+    const endOf = (from, isMeant) => {
+      while (from < names.length && of(from) === index && isMeant(local(from))) from++;
+      return from;
+    };
+    const middle = endOf(first, number => number < fields.len - results), end = endOf(middle, () => true);
+    const words = row => `${spoken(row.local)} “${shortened(row.name.text)}”`;
+    const fact = (label, from, to) => ({
+      label, text: joined([...names.slice(from, Math.min(to, from + MOST)).map(words), to - from > MOST && `and ${spoken(to - from - MOST)} more`]),
+    });
+    return [fact("names of parameters", first, middle), fact("names of locals", middle, end)].filter(({ text }) => text);
   }
 
   escapeWords(escape) {

@@ -34,8 +34,8 @@ function textCard(plan) {
   return card(`Text: ${count(lines, "line")}`, textTools(plan, name, { next: () => (chosen === null ? 0 : chosen + 1), show }), legendPart(plan), box);
 }
 
-// Finding, copying and saving. Words are looked for from the line `next()` on, and `show` shows a line. The keyboard stays where it is, so that
-// Enter finds the next line again.
+// Finding, copying and saving. Words are looked for from the line `next()` on, and `show` shows a
+// line. The keyboard stays where it is, so that Enter finds the next line again.
 function textTools(plan, name, { next, show }) {
   const words = el("input", { type: "search", id: "find", "aria-label": "words to find in the text, in upper or lower case", placeholder: "find, any case" });
   const hits = el("span", { class: "soft" });

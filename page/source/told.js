@@ -1,4 +1,5 @@
-// What a plan says, in rows that the page shows. Numbers and bytes are read from the records; the words of types, expressions and names from the text.
+// What a plan says, in rows that the page shows. Numbers and bytes are read from the records; the
+// words of types, expressions and names from the text.
 
 const PREVIEW = 24;
 const FEW = 12;
@@ -127,7 +128,8 @@ class Told {
     return this.ends(index) - this.begins(index);
   }
 
-  // How full a part of a memory is, in columns: the share of bytes that are not zero in images, and of bytes that segments write.
+  // How full a part of a memory is, in columns: the share of bytes that are not zero in images, and
+  // of bytes that segments write.
   picture(memory, from, to, columns) {
     const full = new Float32Array(columns), covered = new Float32Array(columns), wide = (to - from) / columns;
     for (const part of this.parts(memory)) {

@@ -1,4 +1,5 @@
-// The worker: it holds the plans, so that the page never waits for one. The page asks, and each question has one answer.
+// The worker: it holds the plans, so that the page never waits for one. The page asks, and each
+// question has one answer.
 
 const STEPS = ["reading the file", "planning", "finding the lines of the text", "done"];
 

@@ -1,4 +1,5 @@
-// The modules of plan_cases: bytes, the words of the command, and what their lines say must come. crates/plan_cases/README.md has the format.
+// The modules of plan_cases: bytes, the words of the command, and what their lines say must come.
+// crates/plan_cases/README.md has the format.
 import { readFileSync, readdirSync } from "node:fs";
 import { join } from "node:path";
 

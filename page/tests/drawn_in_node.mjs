@@ -1,4 +1,5 @@
-// The checks of what the page draws that need no browser: its script runs in a small document, which has elements and no looks.
+// The checks of what the page draws that need no browser: its script runs in a small document,
+// which has elements and no looks.
 import { readFileSync } from "node:fs";
 import { join } from "node:path";
 import { readModules, spotOf } from "./cases.mjs";

@@ -1,4 +1,5 @@
-// The checks of the section Imports in a browser: its table, its controls, the address, and that the page answers while imports are matched.
+// The checks of the section Imports in a browser: its table, its controls, the address, and that
+// the page answers while imports are matched.
 import { cpus, loadavg } from "node:os";
 import { manyExports, manyImports } from "./modules.mjs";
 import { NARROW, Opened, STANDS_STILL } from "./opened.mjs";

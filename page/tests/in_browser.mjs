@@ -1,4 +1,5 @@
-// The checks in a browser: what the page shows, by mouse, keyboard and address, and that it never stands still.
+// The checks in a browser: what the page shows, by mouse, keyboard and address, and that it never
+// stands still.
 import { mkdtempSync, readFileSync, rmSync, writeFileSync } from "node:fs";
 import { spawnSync } from "node:child_process";
 import { createHash } from "node:crypto";
@@ -341,8 +342,9 @@ class PageChecks extends Opened {
     this.report("in the browser: an opening can be stopped, and the other module stays", () => true);
   }
 
-  // A million segments: the page answers all the time, and shows how far it is. Up to three runs are taken. Where the machine has more
-  // work than processors, a page that gets none of them is no fault of its own.
+  // A million segments: the page answers all the time, and shows how far it is. Up to three runs
+  // are taken. Where the machine has more work than processors, a page that gets none of them is no
+  // fault of its own.
   async many() {
     const file = join(this.folder, "many.wasm"), bytes = manySegments(1000000);
     writeFileSync(file, bytes);

@@ -1,4 +1,5 @@
-// A module of some of everything, made by hand, and where its parts stand: each place is counted here, from the pieces.
+// A module of some of everything, made by hand, and where its parts stand: each place is counted
+// here, from the pieces.
 import { HEADER, name, section, unsigned } from "./modules.mjs";
 
 const END = 0x0b, FUNCTION = 0x00, GLOBAL = 0x03;
@@ -38,7 +39,8 @@ const CUSTOMS = {
   odd: [0x01, 0x41, 0x42],
 };
 
-// The bytes, and of each list the begin and the end of each line. Items stand one behind the other, behind their count.
+// The bytes, and of each list the begin and the end of each line. Items stand one behind the other,
+// behind their count.
 export function listedModule() {
   const known = [[1, TYPES], [2, IMPORTS], [3, [[0x00], [0x01], [0x02]]], [4, [[0x70, 0x00, 0x0a]]], [5, [[0x00, 0x01]]], [6, GLOBALS], [7, EXPORTS], [9, ELEMENTS]];
   const bodies = BODIES.map(body => [...unsigned(body.length), ...body]), made = [Buffer.from(HEADER)], places = { sections: [] };
@@ -63,6 +65,15 @@ export function listedModule() {
   places[10] = places[10].map(([, to], i) => [to - BODIES[i].length, to]);
   places[11] = places[11].map(([, to], i) => [to - [3, 5][i], to]);
   return { bytes: Buffer.concat(made), places };
+}
+
+// Two functions of two parameters and two locals, whose names are in the name section.
+export function namedLocals() {
+  const type = [0x60, 0x02, 0x7f, 0x7e, 0x00], body = [0x04, 0x01, 0x02, 0x7c, END];
+  const first = [[0x00, ...name("first")], [0x01, ...name("second")], [0x02, ...name("sum")]], second = [[0x03, ...name("last")]];
+  const names = part(2, list([[0x00, ...list(first)], [0x01, ...list(second)]]));
+  const counted = (id, items) => section(id, [unsigned(items.length), ...items]);
+  return Buffer.concat([Buffer.from(HEADER), counted(1, [type]), counted(3, [[0x00], [0x00]]), counted(10, [body, body]), section(0, [name("name"), names])]);
 }
 
 // A module of so many functions, of which one in a thousand is longer.

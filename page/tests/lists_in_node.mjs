@@ -1,7 +1,8 @@
-// The checks of the lists that need no browser. What must come is written down here by the format, or counted from the pieces of a module.
+// The checks of the lists that need no browser. What must come is written down here by the format,
+// or counted from the pieces of a module.
 import { join } from "node:path";
 import { readModules } from "./cases.mjs";
-import { listedModule, manyFunctions, CPP_NAME, RUST_NAME } from "./listed_module.mjs";
+import { listedModule, manyFunctions, namedLocals, CPP_NAME, RUST_NAME } from "./listed_module.mjs";
 import { manySegments } from "./modules.mjs";
 
 const WORDS = ["--cow", "--lazy-tables"];
@@ -17,6 +18,7 @@ export function checkLists({ parts, told, root, report }) {
   checkListed({ told, linesOf, same });
   checkCustoms({ told, linesOf, same });
   checkSources({ parts, of: told(listedModule().bytes, WORDS), same });
+  checkLocals({ parts, told, same });
   checkOrder({ parts, told, linesOf, same, report });
   checkBroken({ told, linesOf, same });
   checkMany({ told, linesOf, report });
@@ -92,6 +94,16 @@ function checkSources({ parts, of, same }) {
   same("each line of each list has bytes in its source", lines, Array(7).fill(true));
 }
 
+// Names of parameters and locals, by function, where the option keeps them.
+function checkLocals({ parts, told, same }) {
+  const named = words => [0, 1].map(index => {
+    const { facts } = new parts.Origins(told(namedLocals(), words)).of("function", index);
+    return ["names of parameters", "names of locals"].map(label => facts.find(it => it.label === label)?.text ?? null);
+  });
+  same("a function shows the names of its parameters and locals", named(["--native-debug"]), [["0 “first”, 1 “second”", "2 “sum”"], [null, "3 “last”"]]);
+  same("and has none without the option", named([]), [[null, null], [null, null]]);
+}
+
 // By size: the largest first, equal ones in order.
 function checkOrder({ parts, told, linesOf, same, report }) {
   const of = told(listedModule().bytes, WORDS), order = list => linesOf(of, list, true).map(it => it.index);
@@ -130,7 +142,8 @@ function checkMany({ told, linesOf, report }) {
   report(`of ${words(MANY_SEGMENTS)} segments the largest and the last come in ${segments.took} s`, () => segments.first.index === 0 && segments.end.index === last && segments.end.place === words(last));
 }
 
-// Of each case that is planned: expressions from the tables against the lines of the text, and items that the script reads against the planner's.
+// Of each case that is planned: expressions from the tables against the lines of the text, and
+// items that the script reads against the planner's.
 function checkCases({ parts, told, root, report }) {
   const wrong = [], counts = { words: 0, items: 0 };
   for (const { file, name, bytes, words } of readModules(join(root, "crates/plan_cases/data"))) {

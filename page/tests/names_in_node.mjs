@@ -1,4 +1,5 @@
-// The checks of names that compilers made: each with what it is in the source, from the descriptions of the three ways and their examples.
+// The checks of names that compilers made: each with what it is in the source, from the
+// descriptions of the three ways and their examples.
 
 // Of the compiler of Rust, the older way: parts behind their lengths, and a hash.
 const OLDER_RUST = {

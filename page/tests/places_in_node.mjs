@@ -1,5 +1,6 @@
-// The checks of where the script finds the parts of a module: one with each spelling, made by hand, whose places are counted from its pieces. Where
-// a number or a constant can have the byte that ends an expression it has it, so that what is stepped over wrongly ends too early.
+// The checks of where the script finds the parts of a module: one with each spelling, made by hand,
+// whose places are counted from its pieces. Where a number or a constant can have the byte that
+// ends an expression it has it, so that what is stepped over wrongly ends too early.
 import { HEADER, name, section, unsigned } from "./modules.mjs";
 
 const END = 0x0b;

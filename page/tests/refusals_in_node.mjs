@@ -1,4 +1,5 @@
-// The checks of refusals that need no browser: where the planner says that they are, and what the script makes of it.
+// The checks of refusals that need no browser: where the planner says that they are, and what the
+// script makes of it.
 import { join } from "node:path";
 import { readModules, spotOf } from "./cases.mjs";
 import { listedModule } from "./listed_module.mjs";
@@ -8,7 +9,8 @@ const NONE = 2 ** 32 - 1;
 const END = 0x0b, FUNCTION = [0x60, 0x00, 0x00], MEMORY = section(5, [[0x01, 0x00, 0x01]]), BODY = section(10, [[0x01, 0x02, 0x00, END]]);
 const made = (...sections) => Buffer.concat([Buffer.from(HEADER), ...sections]);
 
-// A module for each rule, which breaks it: in which section, in which entry there, and at which byte that begins, counted here.
+// A module for each rule, which breaks it: in which section, in which entry there, and at which
+// byte that begins, counted here.
 export const BROKEN = [
   { rule: 1, section: 1, entry: 1, byte: 19, bytes: made(section(1, [[0x02, 0x4e, 0x02], FUNCTION, FUNCTION, [0x60, 0x01, 0x63, 0x05, 0x00]])) },
   { rule: 2, section: 3, entry: 0, byte: 16, bytes: made(section(1, [[0x01, 0x5f, 0x00]]), section(3, [[0x01, 0x00]]), BODY) },
@@ -33,7 +35,8 @@ function spotIn({ byte, entry, section_entry: inSection }) {
   return { byte, entry: inSection ?? (entry === NONE ? null : entry) };
 }
 
-// Each case that says where its bytes are refused, against the planner; and each other that is refused has a place too, where there can be one.
+// Each case that says where its bytes are refused, against the planner; and each other that is
+// refused has a place too, where there can be one.
 function checkCases({ told, root, report }) {
   const wrong = [], unfound = [], same = (one, other) => JSON.stringify(one) === JSON.stringify(other);
   let compared = 0;
@@ -57,7 +60,8 @@ function checkRules({ told, report }) {
   report(`each of ${BROKEN.length} rules has the section, the entry and the byte that break it`, () => wrong.length === 0, wrong.map(({ rule, bytes }) => `rule ${rule}: ${JSON.stringify(told(bytes, []).refusal())}`));
 }
 
-// One byte of a module is changed, each in turn: what is refused has a place in the module, and sections that follow one another.
+// One byte of a module is changed, each in turn: what is refused has a place in the module, and
+// sections that follow one another.
 function checkChanged({ told, report }) {
   const { bytes } = listedModule(), wrong = [];
   let refused = 0;

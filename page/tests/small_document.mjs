@@ -1,5 +1,6 @@
-// A document that is just enough to run the page's script in node: elements, attributes, listeners and simple selectors. It draws nothing, so what
-// is seen is checked in a browser alone; and its worker answers in the same thread.
+// A document that is just enough to run the page's script in node: elements, attributes, listeners
+// and simple selectors. It draws nothing, so what is seen is checked in a browser alone; and its
+// worker answers in the same thread.
 import vm from "node:vm";
 
 const VOID = ["meta", "input", "link", "br"];

@@ -1,7 +1,9 @@
-// Answers questions about modules by the engine that runs this script: in node (engine.mjs), or in a page of a browser (engine.py).
+// Answers questions about modules by the engine that runs this script: in node (engine.mjs), or in
+// a page of a browser (engine.py).
 //
-// { take }: whether the bytes are taken, and else why. { exporter, importer, index }: whether global `index` of the one links with the other.
-// { start, imports, places }: what an instance leaves: whether it trapped, its globals, and what stands at the places of each object, or at all.
+// { take }: whether the bytes are taken, and else why. { exporter, importer, index }: whether
+// global `index` of the one links with the other. { start, imports, places }: what an instance
+// leaves: whether it trapped, its globals, and what stands at the places of each object, or at all.
 
 const bytesOf = hex => Uint8Array.from(hex.match(/../g) ?? [], it => parseInt(it, 16));
 const hexOf = bytes => Array.from(bytes, it => it.toString(16).padStart(2, "0")).join("");
@@ -51,7 +53,8 @@ function number(global) {
   return Number.isInteger(value) && value >= -(2 ** 31) && value < 2 ** 31 ? String(value >>> 0) : null;
 }
 
-// A cell as a number: -1 for null, a function of the module by its index, one of the host by its number and 100.
+// A cell as a number: -1 for null, a function of the module by its index, one of the host by its
+// number and 100.
 function cell(value, exports) {
   if (value === null) return -1;
   const host_ = all.find(k => host[`f${k}`] === value);

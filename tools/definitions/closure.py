@@ -14,7 +14,8 @@ CLAUSE = re.compile(rf"^{WORD}((?:\s+[^=:]*)?)\s=\s")
 FIELD_HEAD = re.compile(rf"^pub\s+{WORD}\s*:(.*)$")
 SET_FIELD = re.compile(rf"(?<=[{{;])\s*«?{WORD}»?\s*=(?!=)")
 FIELD_LINE = re.compile(rf"^\s+{WORD}\s=\s")
-# The format, the rules, and what a plan and a module leave: a reader begins with these, where they are reached.
+# The format, the rules, and what a plan and a module leave: a reader begins with these, where they
+# are reached.
 READ_FIRST = ["Spells", "Keeps", "AgreesInAll"]
 # Records of what follows from the rest: a reader may pass over them, and what they alone cite.
 FOLLOWS = frozenset(["AlsoHolds"])

@@ -28,7 +28,8 @@ INDEX = """\
 Each name with the number of its file.
 """
 
-# The words that are no plain English, or mean one thing only: the word, the crate and the name of its definition, and its sentence.
+# The words that are no plain English, or mean one thing only: the word, the crate and the name of
+# its definition, and its sentence.
 WORDS = [
     ("agrees", "init_plan", "AgreesInAll", "a plan, replayed over any imports, gives the globals, memories and tables of the module's initialisers"),
     ("class", "rule_spec", "HasClass", "what coarse typing keeps of a type: a number type, vector or reference"),

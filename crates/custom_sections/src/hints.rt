@@ -93,6 +93,9 @@ fn entries(
 
 /// The functions of a section of branch hints with their hints, in the order of the section; `None`
 /// where the contents are no such section.
+///
+/// # Errors
+/// `OutOfMemory` where the hints find no memory.
 pub fn read_hints(
     alloc: Global,
     contents: &[u8],

@@ -156,6 +156,9 @@ impl<'d> Names<'d> {
 
 /// Reads the contents of a name section, with the names of locals where the caller requires them. A
 /// fault ends the names, and the names before it are kept.
+///
+/// # Errors
+/// `OutOfMemory` where the names find no memory.
 pub fn read_names<'d>(
     alloc: Global,
     contents: &'d [u8],

@@ -40,6 +40,9 @@ impl<'a> Calls<'a> {
     }
 
     /// Counts a call that begins. It fails where it is listed.
+    ///
+    /// # Errors
+    /// `Failed` exactly where the call is listed; it counts as a fault then.
     pub fn begin(&mut self) -> Result<(), Failed>
         ensures fails { IsErr result ↔ FailsNext self.old }
         ensures ok { OnOk result (self.new ≡ after_success self.old) }

@@ -35,6 +35,9 @@ impl<'a> Model for ListSink<'a> {
 impl<'a> ListSink<'a> {
     /// A sink that holds nothing, with its capacity allocated at once; `most` is not 0. Write
     /// number `k`, from 1, fails where `k` is in `failing`.
+    ///
+    /// # Errors
+    /// `OutOfMemory` where the capacity finds no memory.
     pub fn new(
         alloc: Global,
         room: usize,

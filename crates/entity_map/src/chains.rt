@@ -27,9 +27,8 @@ impl Chains {
         }
     }
 
-    /// Reserves capacity for this many more hashes. A new allocation holds at least twice as many
-    /// hashes
-    /// as there are.
+    /// Reserves capacity for this many more hashes. A new allocation holds at least twice as
+    /// many hashes as there are.
     pub(crate) fn make_room(
         &mut self,
         alloc: Global,

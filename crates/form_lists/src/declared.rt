@@ -36,7 +36,8 @@ impl<'f, 'd> Model for DeclaredTypes<'f, 'd> {
 }
 
 impl<'f, 'd> DeclaredTypes<'f, 'd> {
-    /// Those that the module declares, which are numbered.
+    /// The types that a module declares, in order. `types` has their ids, as `Types::build` gives
+    /// them for the same module.
     pub fn new(types: &'f Types, source: Source<'f, 'd>) -> DeclaredTypes<'f, 'd>
         requires { AreNumbered (source_module source) types.now }
         ensures { result ≡ declared_groups 0 (groups (source_module source.entry)) }

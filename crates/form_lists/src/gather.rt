@@ -20,6 +20,9 @@ use std::alloc::{AllocError, Global};
 use wasm_spec::{GlobalType, TableType, TypeRef};
 
 /// The lists of a module, whose declared types are given.
+///
+/// # Errors
+/// `AllocError` where the lists find no memory.
 pub fn gather_lists<'f, 'd>(
     alloc: Global,
     source: Source<'f, 'd>,

@@ -100,6 +100,9 @@ impl GcStructLayout {
     }
 
     /// An equal layout.
+    ///
+    /// # Errors
+    /// `OutOfMemory` where the copy finds no memory.
     pub fn try_clone(&self, alloc: Global) -> Result<Self, OutOfMemory>
         ensures { IfOk result (λ layout. layout ≡ self.now) }
     {

@@ -58,6 +58,9 @@ impl GcLayout {
     }
 
     /// An equal layout; that of a struct or an exception is shared.
+    ///
+    /// # Errors
+    /// `OutOfMemory` where the copy finds no memory.
     pub fn try_clone(&self) -> Result<Self, OutOfMemory>
         ensures { IfOk result (λ layout. object_layout layout ≡ object_layout self.now) }
     {

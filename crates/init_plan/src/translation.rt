@@ -114,6 +114,9 @@ impl<'d> RuntimeBytes<'d> {
 
 impl<'d> ModuleTranslation<'d> {
     /// The empty translation.
+    ///
+    /// # Errors
+    /// `OutOfMemory` where the translation finds no memory.
     pub fn new(alloc: Global, module_index: StaticModuleIndex) -> Result<Self, OutOfMemory>
         ensures { IfOk result (IsNewTranslation module_index) }
     {
@@ -149,6 +152,9 @@ impl<'d> ModuleTranslation<'d> {
     }
 
     /// Records a passive data segment, after those that were recorded before.
+    ///
+    /// # Errors
+    /// `OutOfMemory` where the segment finds no memory; nothing is recorded then.
     pub fn push_passive_data(
         &mut self,
         index: DataIndex,

@@ -18,6 +18,9 @@ pub struct Written {
 }
 
 /// The offsets that segments cover, in order, where each pair is a start and a length.
+///
+/// # Errors
+/// `OutOfMemory` where the ranges find no memory.
 pub fn written_ranges(alloc: Global, segments: &[(u64, u64)]) -> Result<Vec<Written>, OutOfMemory>
     requires { All (λ pair. pair.0 + pair.1 < 2 ^ 64) segments.now }
     ensures { IfOk result (λ v. AreWritten segments.now v.items) }

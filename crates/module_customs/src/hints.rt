@@ -20,6 +20,9 @@ use wasm_index::FuncIndex;
 
 /// The hints of the last section of hints that has no fault, by their functions (branch hinting,
 /// binary format): of several entries of a function the first one counts.
+///
+/// # Errors
+/// `OutOfMemory` where the hints find no memory.
 pub fn kept_hints(
     alloc: Global,
     source: Source<'_, '_>,

@@ -27,6 +27,9 @@ use wasm_spec::TypeRef;
 /// The names of the module, its functions and their locals, as the name sections give them (core
 /// specification, appendix, name section). Names of locals are read where the caller requires them.
 /// The name of a function is kept where the function is declared before its section.
+///
+/// # Errors
+/// `OutOfMemory` where the names find no memory.
 pub fn kept_names<'d>(
     alloc: Global,
     source: Source<'_, 'd>,

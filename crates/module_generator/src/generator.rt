@@ -9,6 +9,9 @@ use entity_map::OutOfMemory;
 use std::alloc::Global;
 
 /// The module of `n` types, `n` functions in its table and `n` segments of data.
+///
+/// # Errors
+/// `OutOfMemory` where the bytes find no memory.
 #[tactic(auto, unfolding(crate::specs::Generated::generated_module))]
 pub fn generate(alloc: Global, n: u32) -> Result<Vec<u8>, OutOfMemory>
     requires { (1 ≤ n) × (n ≤ 100000) }

@@ -51,7 +51,8 @@ impl<'t> PagedMemory<'t> {
 
     /// A copy of these bytes, in pages of `page` bytes that are all owned. `page` is not 0.
     ///
-    /// Fails only where memory runs out.
+    /// # Errors
+    /// `OutOfMemory` where the pages find no memory.
     pub fn from_bytes(alloc: Global, bytes: &[u8], page: u64) -> Result<Self, OutOfMemory>
         requires { 0 < page }
         ensures bytes { IfOk result (λ m. m.bytes ≡ bytes.now) }
@@ -71,7 +72,8 @@ impl<'t> PagedMemory<'t> {
     /// begins at a multiple of `page`, has complete pages, and ends within the length. It may be
     /// empty.
     ///
-    /// Fails only where memory runs out.
+    /// # Errors
+    /// `OutOfMemory` where the pages find no memory.
     pub fn with_image(
         alloc: Global,
         len: u64,
@@ -100,8 +102,9 @@ impl<'t> PagedMemory<'t> {
     /// length. Every other byte stays. The pages that are written to are no longer borrowed, all
     /// others are as before, and borrowed bytes are never changed.
     ///
-    /// Fails only where memory runs out. Then no byte is changed, but the first of the pages that
-    /// were to be written to may no longer be borrowed.
+    /// # Errors
+    /// `OutOfMemory`; then no byte is changed, but the first of the pages that were to be written
+    /// to may no longer be borrowed.
     pub fn write(&mut self, at: u64, bytes: &[u8]) -> Result<(), OutOfMemory>
         requires { at + length bytes.now ≤ length self.old.bytes }
         ensures ok { OnOk result (self.new.bytes ≡ written at bytes.now self.old.bytes) }

@@ -8,8 +8,8 @@ use Rattle.plan_tables.specs.Plan.{Tells}
 abbrev pub with_runtime : PlanRecord → PlanRecord → PlanRecord
 with_runtime r s = record r { memories = record r.memories { runtime = s.memories.runtime } }
 
--- The one tells the plan that the other tells, table by table. Left out is which runtime data the plan made, and which
--- are bytes of the module.
+-- The one tells the plan that the other tells, table by table. Left out is which runtime data the
+-- plan made, and which are bytes of the module.
 pub record TellAlike (plan : Plan) (one other : PlanRecord) : Type 0 where
   pub runtime : map (λ row. row.bytes.now) one.memories.runtime.now
       ≡ map (λ row. row.bytes.now) other.memories.runtime.now

@@ -13,6 +13,9 @@ use entity_map::OutOfMemory;
 use vm_offsets::VMOffsets;
 
 /// Appends the line of a region.
+///
+/// # Errors
+/// `OutOfMemory`; the text may then end anywhere.
 #[tactic(auto, unfolding(crate::specs::ContextLines::region_line))]
 pub fn append_region(text: &mut Text, description: &str, size: u32) -> Result<(), OutOfMemory>
     ensures { OnOk result (text.new ≡ text.old ++ region_line (description.now, size)) }
@@ -24,6 +27,9 @@ pub fn append_region(text: &mut Text, description: &str, size: u32) -> Result<()
 }
 
 /// Appends the lines of the regions of a context, the last one first.
+///
+/// # Errors
+/// `OutOfMemory`; the text may then end anywhere.
 pub fn append_regions(text: &mut Text, offsets: &VMOffsets<u8>) -> Result<(), OutOfMemory>
     ensures { OnOk result (text.new ≡ text.old ++ flat_map region_line (context_regions (pointer_of offsets.now) (fields_of offsets.now))) }
 {
@@ -34,6 +40,9 @@ pub fn append_regions(text: &mut Text, offsets: &VMOffsets<u8>) -> Result<(), Ou
 }
 
 /// Appends the line of the size of a context.
+///
+/// # Errors
+/// `OutOfMemory`; the text may then end anywhere.
 pub fn append_context(text: &mut Text, offsets: &VMOffsets<u8>) -> Result<(), OutOfMemory>
     ensures { OnOk result (text.new ≡ text.old ++ numbers_line (codes "context") (size_of_context offsets.now ∷ [])) }
 {

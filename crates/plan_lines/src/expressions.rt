@@ -93,6 +93,9 @@ fn append_lent(text: &mut Text, operator: &ConstOp) -> Result<(), OutOfMemory>
 }
 
 /// Appends an operator with its operands.
+///
+/// # Errors
+/// `OutOfMemory`; the text may then end anywhere.
 pub fn append_operator(text: &mut Text, operator: ConstOp) -> Result<(), OutOfMemory>
     ensures { OnOk result (text.new ≡ text.old ++ operator_text operator) }
 {
@@ -100,6 +103,9 @@ pub fn append_operator(text: &mut Text, operator: ConstOp) -> Result<(), OutOfMe
 }
 
 /// Appends operators, joined by a semicolon and a space.
+///
+/// # Errors
+/// `OutOfMemory`; the text may then end anywhere.
 #[inline(always)]
 #[tactic(auto, unfolding(crate::specs::Expressions::expression_text))]
 pub fn append_expression(text: &mut Text, expression: &ConstExpr) -> Result<(), OutOfMemory>

@@ -24,6 +24,9 @@ fn constant_of(value: GlobalConstValue) -> ConstOp
 }
 
 /// Appends the line of a global whose value is known.
+///
+/// # Errors
+/// `OutOfMemory`; the text may then end anywhere.
 #[tactic(auto, unfolding(crate::specs::GlobalLines::global_line))]
 pub fn append_global(
     text: &mut Text,
@@ -38,6 +41,9 @@ pub fn append_global(
 }
 
 /// Appends the lines of the globals whose values are known.
+///
+/// # Errors
+/// `OutOfMemory`; the text may then end anywhere.
 pub fn append_globals(
     text: &mut Text,
     values: &[(DefinedGlobalIndex, GlobalConstValue)],
@@ -51,6 +57,9 @@ pub fn append_globals(
 }
 
 /// Appends the line of a global that begins as the value of an expression.
+///
+/// # Errors
+/// `OutOfMemory`; the text may then end anywhere.
 #[tactic(auto, unfolding(crate::specs::GlobalLines::global_expression_line))]
 pub fn append_global_expression(
     text: &mut Text,
@@ -66,6 +75,9 @@ pub fn append_global_expression(
 }
 
 /// Appends the lines of the globals that begin as the values of expressions.
+///
+/// # Errors
+/// `OutOfMemory`; the text may then end anywhere.
 pub fn append_global_expressions(
     text: &mut Text,
     expressions: &[(DefinedGlobalIndex, ConstExpr)],

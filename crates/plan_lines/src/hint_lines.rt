@@ -12,6 +12,9 @@ use init_plan::{BranchHint, ModuleTranslation};
 use wasm_index::FuncIndex;
 
 /// Appends the line of a function that has an entry of hints; other functions have none.
+///
+/// # Errors
+/// `OutOfMemory`; the text may then end anywhere.
 pub fn append_function_hints(
     text: &mut Text,
     function: FuncIndex,
@@ -30,6 +33,9 @@ pub fn append_function_hints(
 }
 
 /// Appends the lines of the functions of the index space that have an entry of hints.
+///
+/// # Errors
+/// `OutOfMemory`; the text may then end anywhere.
 pub fn append_hints(text: &mut Text, translation: &ModuleTranslation<'_>) -> Result<(), OutOfMemory>
     ensures { OnOk result (text.new ≡ text.old ++ keyed_lines (function_hints translation.now) translation.now.module.functions) }
 {

@@ -18,6 +18,9 @@ fn append_refs(text: &mut Text, refs: bool) -> Result<(), OutOfMemory>
 }
 
 /// Appends the line of the layout of an array.
+///
+/// # Errors
+/// `OutOfMemory`; the text may then end anywhere.
 #[tactic(auto, unfolding(crate::specs::LayoutLines::array_layout_line))]
 pub fn append_array_layout(
     text: &mut Text,
@@ -50,6 +53,9 @@ fn append_fields(text: &mut Text, fields: &[GcStructLayoutField]) -> Result<(), 
 }
 
 /// Appends the line of the layout of a struct or an exception.
+///
+/// # Errors
+/// `OutOfMemory`; the text may then end anywhere.
 #[tactic(auto, unfolding(crate::specs::LayoutLines::fields_layout_line))]
 pub fn append_fields_layout(
     text: &mut Text,
@@ -72,6 +78,9 @@ pub fn append_fields_layout(
 }
 
 /// Appends the line of a type's layout; a type without one has none.
+///
+/// # Errors
+/// `OutOfMemory`; the text may then end anywhere.
 pub fn append_layout(
     text: &mut Text,
     index: ModuleInternedTypeIndex,
@@ -86,6 +95,9 @@ pub fn append_layout(
 }
 
 /// Appends the lines of the types' layouts.
+///
+/// # Errors
+/// `OutOfMemory`; the text may then end anywhere.
 pub fn append_layouts(
     text: &mut Text,
     layouts: &PrimaryMap<ModuleInternedTypeIndex, Option<GcLayout>>,

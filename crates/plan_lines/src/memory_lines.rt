@@ -11,6 +11,9 @@ use std::ops::Range;
 use wasm_index::{DataIndex, MemoryIndex, RuntimeDataIndex};
 
 /// Appends the line of the alignment of images, where there is one.
+///
+/// # Errors
+/// `OutOfMemory`; the text may then end anywhere.
 pub fn append_alignment(text: &mut Text, align: Option<u64>) -> Result<(), OutOfMemory>
     ensures { OnOk result (text.new ≡ text.old ++ alignment_lines align) }
 {
@@ -21,6 +24,9 @@ pub fn append_alignment(text: &mut Text, align: Option<u64>) -> Result<(), OutOf
 }
 
 /// Appends the line of a memory's image, where it has one.
+///
+/// # Errors
+/// `OutOfMemory`; the text may then end anywhere.
 pub fn append_image(
     text: &mut Text,
     memory: MemoryIndex,
@@ -39,6 +45,9 @@ pub fn append_image(
 }
 
 /// Appends the lines of the images of memories.
+///
+/// # Errors
+/// `OutOfMemory`; the text may then end anywhere.
 pub fn append_images(
     text: &mut Text,
     images: &PrimaryMap<MemoryIndex, Option<(u64, RuntimeDataIndex)>>,
@@ -52,6 +61,9 @@ pub fn append_images(
 }
 
 /// Appends the line of a passive data segment; other data segments have none.
+///
+/// # Errors
+/// `OutOfMemory`; the text may then end anywhere.
 pub fn append_passive(
     text: &mut Text,
     segment: DataIndex,
@@ -70,6 +82,9 @@ pub fn append_passive(
 }
 
 /// Appends the lines of the passive data segments.
+///
+/// # Errors
+/// `OutOfMemory`; the text may then end anywhere.
 pub fn append_passive_data(
     text: &mut Text,
     runtime_data_map: &SecondaryMap<DataIndex, Option<RuntimeDataIndex>>,
@@ -83,6 +98,9 @@ pub fn append_passive_data(
 }
 
 /// Appends the lines of the ranges of runtime data.
+///
+/// # Errors
+/// `OutOfMemory`; the text may then end anywhere.
 #[inline(always)]
 pub fn append_runtime_data(
     text: &mut Text,

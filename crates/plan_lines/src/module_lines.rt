@@ -29,6 +29,9 @@ fn append_initializer(
 
 /// Appends the lines of the imports, which are numbered from 0. The texts of their names must be in
 /// the pool.
+///
+/// # Errors
+/// `OutOfMemory`; the text may then end anywhere.
 pub fn append_imports(
     text: &mut Text,
     pool: &StringPool,
@@ -44,6 +47,9 @@ pub fn append_imports(
 }
 
 /// Appends the lines of how many entities of each kind are imported, and how many are defined.
+///
+/// # Errors
+/// `OutOfMemory`; the text may then end anywhere.
 #[tactic(auto, unfolding(crate::specs::ModuleLines::count_lines))]
 pub fn append_entity_counts(text: &mut Text, module: &Module) -> Result<(), OutOfMemory>
     requires { HoldsImports (record_of «module».now) }
@@ -77,6 +83,9 @@ pub fn append_entity_counts(text: &mut Text, module: &Module) -> Result<(), OutO
 }
 
 /// Appends the line that says whether the heap of a garbage collector is needed.
+///
+/// # Errors
+/// `OutOfMemory`; the text may then end anywhere.
 pub fn append_gc_heap(text: &mut Text, needed: bool) -> Result<(), OutOfMemory>
     ensures { OnOk result (text.new ≡ text.old ++ gc_heap_line needed) }
 {
@@ -88,6 +97,9 @@ pub fn append_gc_heap(text: &mut Text, needed: bool) -> Result<(), OutOfMemory>
 }
 
 /// Appends the line of a function that escapes; other functions have none.
+///
+/// # Errors
+/// `OutOfMemory`; the text may then end anywhere.
 pub fn append_escape(
     text: &mut Text,
     index: FuncIndex,
@@ -106,6 +118,9 @@ pub fn append_escape(
 }
 
 /// Appends the lines of the functions that escape.
+///
+/// # Errors
+/// `OutOfMemory`; the text may then end anywhere.
 pub fn append_escapes(
     text: &mut Text,
     functions: &PrimaryMap<FuncIndex, FunctionType>,
@@ -119,6 +134,9 @@ pub fn append_escapes(
 }
 
 /// Appends the line of the start function, where there is one.
+///
+/// # Errors
+/// `OutOfMemory`; the text may then end anywhere.
 pub fn append_start(text: &mut Text, function: Option<FuncIndex>) -> Result<(), OutOfMemory>
     ensures { OnOk result (text.new ≡ text.old ++ start_lines function) }
 {
@@ -129,6 +147,9 @@ pub fn append_start(text: &mut Text, function: Option<FuncIndex>) -> Result<(), 
 }
 
 /// Appends the line of when the startup function runs, and of its type.
+///
+/// # Errors
+/// `OutOfMemory`; the text may then end anywhere.
 pub fn append_startup(text: &mut Text, startup: &ModuleStartup) -> Result<(), OutOfMemory>
     ensures { OnOk result (text.new ≡ text.old ++ startup_line startup.now) }
 {

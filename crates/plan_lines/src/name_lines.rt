@@ -37,6 +37,9 @@ fn append_entity(text: &mut Text, entity: EntityIndex) -> Result<(), OutOfMemory
 
 /// Appends the line of an import, with its index among the imports. The texts of its names must be
 /// in the pool.
+///
+/// # Errors
+/// `OutOfMemory`; the text may then end anywhere.
 #[tactic(auto, unfolding(crate::specs::NameLines::import_line))]
 pub fn append_import(
     text: &mut Text,
@@ -58,6 +61,9 @@ pub fn append_import(
 }
 
 /// Appends the line of an export. The text of its name must be in the pool.
+///
+/// # Errors
+/// `OutOfMemory`; the text may then end anywhere.
 #[tactic(auto, unfolding(crate::specs::NameLines::export_line))]
 pub fn append_export(
     text: &mut Text,
@@ -74,6 +80,9 @@ pub fn append_export(
 }
 
 /// Appends the lines of the exports. The texts of their names must be in the pool.
+///
+/// # Errors
+/// `OutOfMemory`; the text may then end anywhere.
 pub fn append_exports(
     text: &mut Text,
     pool: &StringPool,
@@ -99,6 +108,9 @@ fn append_name(text: &mut Text, pool: &StringPool, name: Atom) -> Result<(), Out
 }
 
 /// Appends the line of the module's name, where it has one. Its text must be in the pool.
+///
+/// # Errors
+/// `OutOfMemory`; the text may then end anywhere.
 pub fn append_module_name(
     text: &mut Text,
     pool: &StringPool,
@@ -114,6 +126,9 @@ pub fn append_module_name(
 }
 
 /// Appends the line of a function's name.
+///
+/// # Errors
+/// `OutOfMemory`; the text may then end anywhere.
 #[tactic(auto, unfolding(crate::specs::NameLines::function_name_line))]
 pub fn append_function_name(
     text: &mut Text,
@@ -128,6 +143,9 @@ pub fn append_function_name(
 }
 
 /// Appends the lines of the functions' names.
+///
+/// # Errors
+/// `OutOfMemory`; the text may then end anywhere.
 pub fn append_function_names(
     text: &mut Text,
     names: &BTreeMap<FuncIndex, &str>,

@@ -18,6 +18,9 @@ fn most_bytes(word: &str, numbers: &[u64]) -> Option<usize>
 }
 
 /// Appends a line: a word, and numbers.
+///
+/// # Errors
+/// `OutOfMemory`; the text may then end anywhere.
 #[inline(always)]
 #[tactic(auto, unfolding(crate::specs::Numbers::numbers_line))]
 pub fn append_numbers(text: &mut Text, word: &str, numbers: &[u64]) -> Result<(), OutOfMemory>
@@ -74,6 +77,9 @@ pub(crate) fn append_between(
 }
 
 /// Appends how many entities are imported, and how many are defined.
+///
+/// # Errors
+/// `OutOfMemory`; the text may then end anywhere.
 pub fn append_counts(
     text: &mut Text,
     word: &str,

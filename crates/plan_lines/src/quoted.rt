@@ -63,6 +63,9 @@ fn append_bytes(text: &mut Text, bytes: &[u8]) -> Result<(), OutOfMemory>
 
 /// Appends a name between quotes. A byte that is not printed as it is becomes a backslash and its
 /// two digits.
+///
+/// # Errors
+/// `OutOfMemory`; the text may then end anywhere.
 pub fn append_quoted(text: &mut Text, words: &str) -> Result<(), OutOfMemory>
     ensures { OnOk result (text.new ≡ text.old ++ quoted_text words.now) }
 {

@@ -42,6 +42,9 @@ fn append_table_expression(
 
 /// Appends the line of a table whose cells begin as the value of an expression; a table of null
 /// references has none.
+///
+/// # Errors
+/// `OutOfMemory`; the text may then end anywhere.
 pub fn append_table_value(
     text: &mut Text,
     table: DefinedTableIndex,
@@ -56,6 +59,9 @@ pub fn append_table_value(
 }
 
 /// Appends the lines of the tables whose cells begin as the values of expressions.
+///
+/// # Errors
+/// `OutOfMemory`; the text may then end anywhere.
 pub fn append_table_values(
     text: &mut Text,
     values: &PrimaryMap<DefinedTableIndex, TableInitialValue>,
@@ -69,6 +75,9 @@ pub fn append_table_values(
 }
 
 /// Appends the line of an active element segment.
+///
+/// # Errors
+/// `OutOfMemory`; the text may then end anywhere.
 #[tactic(auto, unfolding(crate::specs::SegmentLines::element_line))]
 pub fn append_element(text: &mut Text, segment: &TableSegment) -> Result<(), OutOfMemory>
     ensures { OnOk result (text.new ≡ text.old ++ element_line segment.now) }
@@ -80,6 +89,9 @@ pub fn append_element(text: &mut Text, segment: &TableSegment) -> Result<(), Out
 }
 
 /// Appends the lines of the active element segments.
+///
+/// # Errors
+/// `OutOfMemory`; the text may then end anywhere.
 pub fn append_elements(text: &mut Text, segments: &[TableSegment]) -> Result<(), OutOfMemory>
     ensures { OnOk result (text.new ≡ text.old ++ flat_map element_line segments.now) }
 {
@@ -90,6 +102,9 @@ pub fn append_elements(text: &mut Text, segments: &[TableSegment]) -> Result<(),
 }
 
 /// Appends the line of how the memories begin.
+///
+/// # Errors
+/// `OutOfMemory`; the text may then end anywhere.
 pub fn append_initialization(
     text: &mut Text,
     initialization: &MemoryInitialization,
@@ -103,6 +118,9 @@ pub fn append_initialization(
 }
 
 /// Appends the lines of the images of memories that begin as images.
+///
+/// # Errors
+/// `OutOfMemory`; the text may then end anywhere.
 pub fn append_initialization_images(
     text: &mut Text,
     initialization: &MemoryInitialization,
@@ -122,6 +140,9 @@ fn append_place(text: &mut Text, place: u64) -> Result<(), OutOfMemory>
 }
 
 /// Appends the offset of a planned segment.
+///
+/// # Errors
+/// `OutOfMemory`; the text may then end anywhere.
 pub fn append_offset(text: &mut Text, offset: &MemorySegmentOffset) -> Result<(), OutOfMemory>
     ensures { OnOk result (text.new ≡ text.old ++ offset_text offset.now) }
 {
@@ -132,6 +153,9 @@ pub fn append_offset(text: &mut Text, offset: &MemorySegmentOffset) -> Result<()
 }
 
 /// Appends the line of a planned segment.
+///
+/// # Errors
+/// `OutOfMemory`; the text may then end anywhere.
 #[tactic(auto, unfolding(crate::specs::SegmentLines::segment_line))]
 pub fn append_segment(
     text: &mut Text,
@@ -148,6 +172,9 @@ pub fn append_segment(
 }
 
 /// Appends the lines of the planned segments.
+///
+/// # Errors
+/// `OutOfMemory`; the text may then end anywhere.
 pub fn append_segments(text: &mut Text, memory_init: &MemoryInit<'_>) -> Result<(), OutOfMemory>
     ensures { OnOk result (text.new ≡ text.old ++ segment_lines memory_init.now) }
 {

@@ -46,6 +46,9 @@ fn append_image(
 }
 
 /// Appends the line of a table's image, where it has cells.
+///
+/// # Errors
+/// `OutOfMemory`; the text may then end anywhere.
 pub fn append_table_image(
     text: &mut Text,
     table: DefinedTableIndex,
@@ -60,6 +63,9 @@ pub fn append_table_image(
 }
 
 /// Appends the lines of the images of tables.
+///
+/// # Errors
+/// `OutOfMemory`; the text may then end anywhere.
 pub fn append_table_images(
     text: &mut Text,
     images: &PrimaryMap<DefinedTableIndex, Vec<FuncIndex>>,
@@ -73,6 +79,9 @@ pub fn append_table_images(
 }
 
 /// Appends the line of a passive element segment: the type of its elements, and their number.
+///
+/// # Errors
+/// `OutOfMemory`; the text may then end anywhere.
 #[tactic(auto, unfolding(crate::specs::TableLines::passive_element_line))]
 pub fn append_passive_element(
     text: &mut Text,
@@ -91,6 +100,9 @@ pub fn append_passive_element(
 }
 
 /// Appends the lines of the passive element segments.
+///
+/// # Errors
+/// `OutOfMemory`; the text may then end anywhere.
 pub fn append_passive_elements(
     text: &mut Text,
     elements: &PrimaryMap<PassiveElemIndex, (WasmRefType, u64)>,

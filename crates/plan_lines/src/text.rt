@@ -41,6 +41,9 @@ impl Text {
     }
 
     /// The empty text, with capacity for `n` bytes.
+    ///
+    /// # Errors
+    /// `OutOfMemory` where the capacity finds no memory.
     pub fn with_capacity(alloc: Global, n: usize) -> Result<Self, OutOfMemory>
         ensures { IfOk result (λ text. text ≡ []) }
     {
@@ -60,6 +63,9 @@ impl Text {
     }
 
     /// Appends words.
+    ///
+    /// # Errors
+    /// `OutOfMemory`; the text may then end anywhere.
     #[inline(always)]
     pub fn push_str(&mut self, words: &str) -> Result<(), OutOfMemory>
         ensures { OnOk result (self.new ≡ self.old ++ words.now) }
@@ -78,6 +84,9 @@ impl Text {
     }
 
     /// Appends one byte.
+    ///
+    /// # Errors
+    /// `OutOfMemory`; the text may then end anywhere.
     #[inline(always)]
     pub fn push_byte(&mut self, byte: u8) -> Result<(), OutOfMemory>
         ensures { OnOk result (self.new ≡ self.old ++ byte ∷ []) }
@@ -88,6 +97,9 @@ impl Text {
     }
 
     /// Appends a number in decimal, with a minus sign where it is below 0.
+    ///
+    /// # Errors
+    /// `OutOfMemory`; the text may then end anywhere.
     #[inline(always)]
     pub fn push_number<I: Integer>(&mut self, number: I) -> Result<(), OutOfMemory>
         ensures { OnOk result (self.new ≡ self.old ++ I.text number) }
@@ -98,6 +110,9 @@ impl Text {
 
     /// Appends the last `digits` digits of a number in base 16, with zeros in front where it has
     /// fewer.
+    ///
+    /// # Errors
+    /// `OutOfMemory`; the text may then end anywhere.
     pub fn push_hexadecimal(&mut self, number: u128, digits: usize) -> Result<(), OutOfMemory>
         requires { digits ≤ 32 }
         ensures { OnOk result (self.new ≡ self.old ++ hexadecimal digits number) }

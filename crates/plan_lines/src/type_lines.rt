@@ -25,6 +25,9 @@ fn append_trampoline(
 }
 
 /// Appends the line of an interned type.
+///
+/// # Errors
+/// `OutOfMemory`; the text may then end anywhere.
 #[tactic(auto, unfolding(crate::specs::TypeLines::type_line))]
 pub fn append_type(
     text: &mut Text,
@@ -52,6 +55,9 @@ pub(crate) fn listed_number(index: EngineOrModuleTypeIndex) -> u32
 }
 
 /// Appends the lines of the types of the type section.
+///
+/// # Errors
+/// `OutOfMemory`; the text may then end anywhere.
 pub fn append_declared(
     text: &mut Text,
     types: &PrimaryMap<TypeIndex, EngineOrModuleTypeIndex>,
@@ -69,6 +75,9 @@ pub fn append_declared(
 }
 
 /// Appends the lines of the signatures of functions to which references are made.
+///
+/// # Errors
+/// `OutOfMemory`; the text may then end anywhere.
 pub fn append_signatures(
     text: &mut Text,
     signatures: &[ModuleInternedTypeIndex],

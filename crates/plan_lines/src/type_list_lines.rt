@@ -85,6 +85,9 @@ fn append_groups(text: &mut Text, types: &ModuleTypes) -> Result<(), OutOfMemory
 }
 
 /// Appends the lines of interned types: how many there are, each type, and each group.
+///
+/// # Errors
+/// `OutOfMemory`; the text may then end anywhere.
 #[tactic(auto, unfolding(crate::specs::TypeListLines::type_list_lines))]
 pub fn append_types(text: &mut Text, types: &ModuleTypes) -> Result<(), OutOfMemory>
     ensures { OnOk result (text.new ≡ text.old ++ type_list_lines types.now) }

@@ -65,16 +65,22 @@ fault_text fault.Entry = codes "this is no entry of the section"
 fault_text fault.Remainder = codes "bytes follow the last entry of the section"
 fault_text (fault.Unsupported w) = what_text w
 
+-- what is wrong, by the number of bytes that decide it; without one the input ends too early
+abbrev pub fault_at_text : Option ℕ → Fault → List ℕ
+fault_at_text None fault.Header = codes "the input ends before the header of a module does"
+fault_at_text None fault.SectionSize = codes "the input ends before the size of the section does"
+fault_at_text _ f = fault_text f
+
 -- what is wrong in a section of this kind
-abbrev pub fault_in_text : SectionKind → Fault → List ℕ
-fault_in_text k fault.Entry = codes "this is no " ++ entry_text k
-fault_in_text k f = fault_text f
+abbrev pub fault_in_text : SectionKind → Option ℕ → Fault → List ℕ
+fault_in_text k decided fault.Entry = codes "this is no " ++ entry_text k
+fault_in_text k decided f = fault_at_text decided f
 
 -- the section and the entry, where there are some, and what is wrong
-abbrev pub located_text : Option SectionKind → Option ℕ → Fault → List ℕ
-located_text None entry f = fault_text f
-located_text (Some k) None f = section_text k ++ codes ": " ++ fault_in_text k f
-located_text (Some k) (Some entry) f = section_text k ++ codes ", entry " ++ decimal entry ++ codes ": " ++ fault_in_text k f
+abbrev pub located_text : Option SectionKind → Option ℕ → Option ℕ → Fault → List ℕ
+located_text None entry decided f = fault_at_text decided f
+located_text (Some k) None decided f = section_text k ++ codes ": " ++ fault_in_text k decided f
+located_text (Some k) (Some entry) decided f = section_text k ++ codes ", entry " ++ decimal entry ++ codes ": " ++ fault_in_text k decided f
 
 abbrev pub place_text : Place → List ℕ
-place_text p = located_text p.section p.entry p.fault
+place_text p = located_text p.section p.entry p.decided p.fault

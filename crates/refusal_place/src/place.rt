@@ -1,7 +1,7 @@
 //! Where and why bytes are refused.
 
 ghost use Rattle.std.specs.Prelude.{◌≡◌, Some};
-ghost use Rattle.refusal_place.specs.Texts.{what_text, fault_text, fault_in_text, place_text};
+ghost use Rattle.refusal_place.specs.Texts.{what_text, fault_text, fault_at_text, fault_in_text, place_text};
 
 use crate::kind::SectionKind;
 use std::fmt;
@@ -53,11 +53,18 @@ pub struct Place {
     pub decided: Option<u32>,
 }
 
+/// A fault, and how many bytes decide it.
+#[derive(Clone, Copy)]
+struct FaultAt {
+    fault: Fault,
+    decided: Option<u32>,
+}
+
 /// A fault in a section of this kind.
 #[derive(Clone, Copy)]
 struct FaultIn {
     section: SectionKind,
-    fault: Fault,
+    at: FaultAt,
 }
 
 /// What is not supported, as a sentence.
@@ -103,13 +110,29 @@ impl fmt::Display for Fault {
     }
 }
 
-impl fmt::Display for FaultIn {
-    ghost output = { λ x. Some (fault_in_text x.section x.fault) };
+impl fmt::Display for FaultAt {
+    ghost output = { λ x. Some (fault_at_text x.decided x.fault) };
 
     fn fmt<W: fmt::Write>(&self, f: &mut fmt::Formatter<W>) -> fmt::Result {
-        match self.fault {
+        match (self.decided, self.fault) {
+            (None, Fault::Header) => {
+                f.write_str("the input ends before the header of a module does")
+            }
+            (None, Fault::SectionSize) => {
+                f.write_str("the input ends before the size of the section does")
+            }
+            (_, fault) => fault.fmt(f),
+        }
+    }
+}
+
+impl fmt::Display for FaultIn {
+    ghost output = { λ x. Some (fault_in_text x.section x.at.decided x.at.fault) };
+
+    fn fmt<W: fmt::Write>(&self, f: &mut fmt::Formatter<W>) -> fmt::Result {
+        match self.at.fault {
             Fault::Entry => write!(f, "this is no {}", self.section.entry_name()),
-            _ => self.fault.fmt(f),
+            _ => self.at.fmt(f),
         }
     }
 }
@@ -119,13 +142,14 @@ impl fmt::Display for Place {
     ghost output = { λ p. Some (place_text p) };
 
     fn fmt<W: fmt::Write>(&self, f: &mut fmt::Formatter<W>) -> fmt::Result {
-        let Some(section) = self.section else {
-            return self.fault.fmt(f);
-        };
-        let fault = FaultIn {
-            section,
+        let at = FaultAt {
             fault: self.fault,
+            decided: self.decided,
         };
+        let Some(section) = self.section else {
+            return at.fmt(f);
+        };
+        let fault = FaultIn { section, at };
         match self.entry {
             Some(entry) => write!(f, "{section}, entry {entry}: {fault}"),
             None => write!(f, "{section}: {fault}"),

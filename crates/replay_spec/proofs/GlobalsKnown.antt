@@ -13,7 +13,8 @@ use Rattle.replay_spec.specs.Elements.{value_or_null, cell_of}
 use Rattle.replay_spec.specs.Globals.{values_after, ReadsBelow, ReadEarlier, GlobalPlan, simple_written, kept_written, simple_of, kept_of, IsGlobalPlan, AgreesOnGlobals}
 use Rattle.replay_spec.proofs.Constant.{eval-const_value}
 
--- ---- an expression that reads globals below a number has one value over all lists that are the same below it
+-- ---- an expression that reads globals below a number has one value over all lists that are the
+-- same below it
 
 module _ (fields : ℕ → ℕ) (n : ℕ) (known later : List Value) (same : (g : ℕ) → g < n → slice_get known g ≡ slice_get later g) where
   same-step : (op : Operator) (stack : List Value) → ReadsBelow n op → acted (action known fields op) stack ≡ acted (action later fields op) stack

@@ -68,7 +68,8 @@ IsNoType types _ _ = ⊥
 abbrev pub IsTypeFault : Lists → List UnpackedIndex → RuleFault → Type 0
 IsTypeFault l named f = (i : UnpackedIndex) × Contains named i × IsNoType (length l.types) i f
 
--- a type names a type past its own group, or its supertype is not before it, or it is a continuation of no function type
+-- a type names a type past its own group, or its supertype is not before it, or it is a
+-- continuation of no function type
 abbrev pub IsDeclaredFault : Lists → Declared → RuleFault → Type 0
 IsDeclaredFault l d (fault.NoEarlierType index bound) = (bound ≤ index) × (
     (Contains (composite_edges (λ i. i) d.type.composite.inner) (Module index) × (bound ≡ d.group_end))

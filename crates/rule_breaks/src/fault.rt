@@ -78,6 +78,7 @@ pub enum RuleFault {
     StartType {
         function: u32,
     },
-    /// A type is named by another index than one of the module. What is read has none.
+    /// A type is named by an index that is not the module's. Modules that are read have no such
+    /// index.
     ForeignIndex,
 }

@@ -59,7 +59,8 @@ impl fmt::Display for BrokenRule {
 }
 
 /// The first rule that the module breaks, and the first entry that breaks it, in the first of the
-/// lists of the rule that has one, with where it begins and what is wrong; none where the bytes are not read as a module, and where the module satisfies all rules.
+/// lists of the rule that has one, with where it begins and what is wrong; none where the bytes are
+/// not read as a module, and where the module satisfies all rules.
 ///
 /// # Errors
 /// `OutOfMemory` where the module, the check or an entry finds no memory.

@@ -14,8 +14,7 @@ use wasm_index::FuncIndex;
 use wasm_module::TableSegmentElements;
 
 /// The cell of an expression that is one `ref.func` or one `ref.null`; the reserved index
-/// represents
-/// null.
+/// represents null.
 pub(crate) fn cell_of(expr: &ConstExpr) -> Option<FuncIndex>
     ensures { result ≡ option_map index_cell (expression_cell (expression_of expr.now)) }
 {

@@ -15,84 +15,84 @@ impl<P: PtrSize> VMOffsets<P> {
         &self.fields.ptr
     }
 
-    /// The imported functions.
+    /// How many functions are imported.
     pub fn num_imported_functions(&self) -> u32
         ensures { result ≡ (fields_of self.now).num_imported_functions }
     {
         self.fields.num_imported_functions
     }
 
-    /// The imported tables.
+    /// How many tables are imported.
     pub fn num_imported_tables(&self) -> u32
         ensures { result ≡ (fields_of self.now).num_imported_tables }
     {
         self.fields.num_imported_tables
     }
 
-    /// The imported memories.
+    /// How many memories are imported.
     pub fn num_imported_memories(&self) -> u32
         ensures { result ≡ (fields_of self.now).num_imported_memories }
     {
         self.fields.num_imported_memories
     }
 
-    /// The imported globals.
+    /// How many globals are imported.
     pub fn num_imported_globals(&self) -> u32
         ensures { result ≡ (fields_of self.now).num_imported_globals }
     {
         self.fields.num_imported_globals
     }
 
-    /// The imported tags.
+    /// How many tags are imported.
     pub fn num_imported_tags(&self) -> u32
         ensures { result ≡ (fields_of self.now).num_imported_tags }
     {
         self.fields.num_imported_tags
     }
 
-    /// The tables that the module defines.
+    /// How many tables the module defines.
     pub fn num_defined_tables(&self) -> u32
         ensures { result ≡ (fields_of self.now).num_defined_tables }
     {
         self.fields.num_defined_tables
     }
 
-    /// The memories that the module defines.
+    /// How many memories the module defines.
     pub fn num_defined_memories(&self) -> u32
         ensures { result ≡ (fields_of self.now).num_defined_memories }
     {
         self.fields.num_defined_memories
     }
 
-    /// The memories that the module defines and that are not shared.
+    /// How many memories the module defines that are not shared.
     pub fn num_owned_memories(&self) -> u32
         ensures { result ≡ (fields_of self.now).num_owned_memories }
     {
         self.fields.num_owned_memories
     }
 
-    /// The globals that the module defines.
+    /// How many globals the module defines.
     pub fn num_defined_globals(&self) -> u32
         ensures { result ≡ (fields_of self.now).num_defined_globals }
     {
         self.fields.num_defined_globals
     }
 
-    /// The tags that the module defines.
+    /// How many tags the module defines.
     pub fn num_defined_tags(&self) -> u32
         ensures { result ≡ (fields_of self.now).num_defined_tags }
     {
         self.fields.num_defined_tags
     }
 
-    /// The functions that escape, each of which has a reference.
+    /// How many functions escape; the context has a reference for each.
     pub fn num_escaped_funcs(&self) -> u32
         ensures { result ≡ (fields_of self.now).num_escaped_funcs }
     {
         self.fields.num_escaped_funcs
     }
 
-    /// The pieces of data that are kept for run time.
+    /// How many pieces of data are kept for run time.
     pub fn num_runtime_data(&self) -> u32
         ensures { result ≡ (fields_of self.now).num_runtime_data }
     {
@@ -106,35 +106,35 @@ impl<P: PtrSize> VMOffsets<P> {
         self.fields.has_startup_func
     }
 
-    /// The bytes of a pointer.
+    /// The size of a pointer in bytes.
     pub fn pointer_size(&self) -> u8
         ensures { result ≡ pointer_of self.now }
     {
         self.fields.ptr.size()
     }
 
-    /// The bytes of a pointer to the code of a function.
+    /// The size of a pointer to the code of a function, in bytes.
     pub fn size_of_vmfunction_body_ptr(&self) -> u8
         ensures { result ≡ pointer_of self.now }
     {
         self.pointer_size()
     }
 
-    /// The bytes of the count of a table's elements.
+    /// The size of the count of a table's elements, in bytes.
     pub fn size_of_vmtable_definition_current_elements(&self) -> u8
         ensures { result ≡ pointer_of self.now }
     {
         self.pointer_size()
     }
 
-    /// The bytes of a type index of the engine.
+    /// The size of a type index of the engine, in bytes.
     pub fn size_of_vmshared_type_index(&self) -> u8
         ensures { result ≡ 4 }
     {
         self.fields.ptr.size_of_vmshared_type_index()
     }
 
-    /// The bytes of the context.
+    /// The size of the context in bytes.
     pub fn size_of_vmctx(&self) -> u32
         ensures { result ≡ size_of_context self.now }
     {

@@ -6,8 +6,8 @@ ghost use Rattle.vm_structs.specs.Fields.{IsPointerSize};
 
 use crate::offsets;
 
-/// The size of pointers on a target. Each call but [`PtrSize::size`] is for pointers of 4 or 8 bytes. Sizes and offsets
-/// are in bytes.
+/// The size of pointers on a target. Each call but [`PtrSize::size`] is for pointers of 4 or 8
+/// bytes. Sizes and offsets are in bytes.
 pub trait PtrSize {
     /// The bytes of a pointer.
     ghost pointer_size: { Self → ℕ };

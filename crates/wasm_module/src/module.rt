@@ -76,6 +76,9 @@ pub struct Module {
 
 impl Module {
     /// The record without entities and names.
+    ///
+    /// # Errors
+    /// `OutOfMemory` where the record finds no memory.
     pub fn new(alloc: Heap, module_index: StaticModuleIndex) -> Result<Self, OutOfMemory>
         ensures { IfOk result (λ m. record_of m ≡ empty_record module_index) }
     {
@@ -108,6 +111,9 @@ impl Module {
     }
 
     /// Appends a tag and gives its index.
+    ///
+    /// # Errors
+    /// `OutOfMemory` where the tag finds no memory; the record is unchanged then.
     pub fn push_tag(
         &mut self,
         signature: EngineOrModuleTypeIndex,
@@ -127,6 +133,9 @@ impl Module {
     }
 
     /// Appends a function, to which no reference is made yet, and gives its index.
+    ///
+    /// # Errors
+    /// `OutOfMemory` where the function finds no memory; the record is unchanged then.
     pub fn push_function(
         &mut self,
         signature: EngineOrModuleTypeIndex,

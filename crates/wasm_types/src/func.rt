@@ -136,9 +136,8 @@ impl WasmFuncType {
         &self.types[..self.params_count as usize]
     }
 
-    /// How many parameters are references that the garbage collector traces, and that may point to
-    /// an
-    /// object.
+    /// How many parameters are references that the garbage collector traces, and that may point
+    /// to an object.
     pub fn non_i31_gc_ref_params_count(&self) -> usize
         ensures { result ≡ count_by val_is_object self.now.params }
     {
@@ -197,6 +196,9 @@ impl WasmFuncType {
     }
 
     /// An equal type.
+    ///
+    /// # Errors
+    /// `OutOfMemory` where the copy finds no memory.
     pub fn try_clone(&self, alloc: Global) -> Result<Self, OutOfMemory>
         ensures { IfOk result (λ t. t ≡ self.now) }
     {

@@ -1,5 +1,6 @@
-//! dump OUT : makes 1,000 instances of each program, each with hosts of its own, and writes into the folder OUT what
-//! the last one holds. Then node/compare.mjs compares it with an instance of node's engine.
+//! dump OUT : makes 1,000 instances of each program, each with hosts of its own, and writes into
+//! the folder OUT what the last one holds. Then node/compare.mjs compares it with an instance of
+//! node's engine.
 
 #[path = "../tests/common/mod.rs"]
 mod common;

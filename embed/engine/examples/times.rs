@@ -1,6 +1,6 @@
-//! times FILE : writes into FILE a module whose memory begins as an image of 16 MiB, and prints how long an instance
-//! takes, by mapping and by copying, with so many pages written after it is made. The time is the middle one, and
-//! counts that the instance is given back.
+//! times FILE : writes into FILE a module whose memory begins as an image of 16 MiB, and prints how
+//! long an instance takes, by mapping and by copying, with so many pages written after it is made.
+//! The time is the middle one, and counts that the instance is given back.
 
 #[path = "../tests/common/mod.rs"]
 mod common;

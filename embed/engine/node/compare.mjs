@@ -1,6 +1,6 @@
-// node compare.mjs FOLDER : instantiates each program of the folder that examples/dump.rs wrote, and compares every
-// byte, cell and global that it exports with what the allocator's instance held. Start functions are left out of the
-// modules, since the allocator runs no code.
+// node compare.mjs FOLDER : instantiates each program of the folder that examples/dump.rs wrote,
+// and compares every byte, cell and global that it exports with what the allocator's instance held.
+// Start functions are left out of the modules, since the allocator runs no code.
 import { readFileSync, readdirSync } from "node:fs";
 import { join } from "node:path";
 
@@ -38,7 +38,8 @@ function instances(name, names) {
     return made;
 }
 
-/** Of a cell the number of the function's module and its index there. A host exports each of its functions. */
+/** Of a cell the number of the function's module and its index there. A host exports each of its
+ * functions. */
 function shown(cell, made) {
     if (cell === null) return "null";
     const host = made.slice(0, -1).findIndex((one) => Object.values(one.exports).includes(cell));

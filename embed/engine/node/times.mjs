@@ -1,5 +1,6 @@
-// node --expose-gc times.mjs FILE : how long node's engine takes for an instance of a module that is compiled, with so
-// many pages of its memory written after that. The time is the middle one; collecting is not counted.
+// node --expose-gc times.mjs FILE : how long node's engine takes for an instance of a module that
+// is compiled, with so many pages of its memory written after that. The time is the middle one;
+// collecting is not counted.
 import { readFileSync } from "node:fs";
 
 const PAGE = 4096;

@@ -1,4 +1,5 @@
-//! What the context of an instance holds before its startup: all that compiled code reads, at the plan's offsets.
+//! What the context of an instance holds before its startup: all that compiled code reads, at the
+//! plan's offsets.
 
 use crate::instance::{Callee, Definition, Instance};
 use crate::links::Linked;
@@ -8,8 +9,8 @@ use bobbinazure::EntityIndex;
 const MAGIC: u32 = u32::from_le_bytes(*b"core");
 
 impl Instance<'_> {
-    /// Writes the context. What only running code reads stays null: the store, the built-in functions, the epoch and
-    /// the collector.
+    /// Writes the context. What only running code reads stays null: the store, the built-in
+    /// functions, the epoch and the collector.
     pub(crate) fn write_context(&self, linked: &Linked<'_>, exporters: &[&Instance<'_>]) {
         let layout = self.plan().structs().static_context;
         self.region.put(layout.magic as usize, MAGIC);
@@ -110,7 +111,8 @@ impl Instance<'_> {
         }
     }
 
-    /// What `memory.init` reads. The length of other data stays 0: an active segment is dropped when it is written.
+    /// What `memory.init` reads. The length of other data stays 0: an active segment is dropped
+    /// when it is written.
     fn write_passive_data(&self) {
         for data in self.plan().passive_data() {
             let address = data.bytes.as_ptr().expose_provenance();

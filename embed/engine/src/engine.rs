@@ -71,7 +71,8 @@ impl Engine {
         self.page_size
     }
 
-    /// What its modules are planned with: images in pages of the system, tables as images, pointers of 8 bytes.
+    /// What its modules are planned with: images in pages of the system, tables as images, pointers
+    /// of 8 bytes.
     pub fn options(&self) -> Options {
         Options { cow: true, lazy_tables: true, page_size: self.page_size as u64, ..Options::default() }
     }

@@ -1,9 +1,10 @@
 //! A small instance allocator over the planner: what an engine does with a plan before it runs code.
 //!
-//! A [`Template`] is made once of a module: its plan, and a `memfd` with its memory images. A [`Store`] makes
-//! instances of it. Each is one reserved region of addresses: the context by the plan's offsets, the cells of tables,
-//! and the memories, over which the images are mapped privately. Nothing here reads the module: all comes from the
-//! plan's tables. No code of a module is run; what a start function would do is left.
+//! A [`Template`] is made once of a module: its plan, and a `memfd` with its memory images. A
+//! [`Store`] makes instances of it. Each is one reserved region of addresses: the context by the
+//! plan's offsets, the cells of tables, and the memories, over which the images are mapped
+//! privately. Nothing here reads the module: all comes from the plan's tables. No code of a module
+//! is run; what a start function would do is left.
 //!
 //! ```
 //! use engine::{Config, Engine, Store, Template};

@@ -14,8 +14,9 @@ pub struct Linked<'t> {
 }
 
 impl<'m> Template<'m> {
-    /// Links each import to an export of one of these modules, each of which stands under a name. What a module exports
-    /// again counts as it declares it, though an instance may have been given more.
+    /// Links each import to an export of one of these modules, each of which stands under a name.
+    /// What a module exports again counts as it declares it, though an instance may have been given
+    /// more.
     ///
     /// # Errors
     /// [`Error::Missing`], [`Error::Mismatch`], of the first import that has either; [`Error::Link`].

@@ -158,7 +158,8 @@ impl Region {
         unsafe { load(self.checked::<T>(from)) }
     }
 
-    /// Writes a number of the context, or a cell. Nobody holds a reference to a cell while an instance is made.
+    /// Writes a number of the context, or a cell. Nobody holds a reference to a cell while an
+    /// instance is made.
     pub(crate) fn put<T: Number>(&self, from: usize, value: T) {
         // SAFETY: the context and the cells are open.
         unsafe { store(self.checked::<T>(from), value) }

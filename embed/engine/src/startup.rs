@@ -1,9 +1,9 @@
-//! What instantiation leaves to be done, in the order of the standard (core specification, 4.7): globals, the items
-//! of passive element segments, tables, element segments, data segments. Memory images stand for the data segments
-//! of their memories.
+//! What instantiation leaves to be done, in the order of the standard (core specification, 4.7):
+//! globals, the items of passive element segments, tables, element segments, data segments. Memory
+//! images stand for the data segments of their memories.
 //!
-//! Images are mapped after the element segments are written: where one of these traps, functions that the earlier
-//! ones put in an imported table see no data.
+//! Images are mapped after the element segments are written: where one of these traps, functions
+//! that the earlier ones put in an imported table see no data.
 
 use crate::error::{Error, Phase};
 use crate::instance::Instance;

@@ -28,13 +28,13 @@ impl<'t> Store<'t> {
         Store::default()
     }
 
-    /// A new instance of a module that is linked, which imports from these instances, one of each exporter in order.
-    /// Its start function is not called.
+    /// A new instance of a module that is linked, which imports from these instances, one of each
+    /// exporter in order. Its start function is not called.
     ///
     /// # Errors
-    /// [`Error::Trap`] where a segment does not fit. What the segments before it wrote to imported tables and memories
-    /// stays, as in the standard, and so does the instance: a table may refer to its functions.
-    /// [`Error::WrongInstances`], [`Error::System`].
+    /// [`Error::Trap`] where a segment does not fit. What the segments before it wrote to imported
+    /// tables and memories stays, as in the standard, and so does the instance: a table may refer
+    /// to its functions. [`Error::WrongInstances`], [`Error::System`].
     pub fn instantiate(&mut self, linked: &Linked<'t>, from: &[InstanceId]) -> Result<InstanceId, Error> {
         let exporters: Vec<&Instance<'t>> = from.iter().filter_map(|id| self.instances.get(id.0)).collect();
         let mut pairs = exporters.iter().zip(&linked.exporters);
@@ -89,7 +89,8 @@ impl<'t> Store<'t> {
             return None;
         }
         let (begin, len) = instance.cells(table);
-        // SAFETY: as of `memory`; cells are aligned, since contexts, and what stands before a table, have whole cells.
+        // SAFETY: as of `memory`. Cells are aligned, since a context, and what is before a table,
+        // have whole cells.
         Some(unsafe { slice::from_raw_parts(std::ptr::with_exposed_provenance(begin), len) })
     }
 
@@ -104,8 +105,8 @@ impl<'t> Store<'t> {
         self.instance(id)?.passive.get(segment as usize).map(Vec::as_slice)
     }
 
-    /// The bytes of a passive data segment, by its number in the data section, as the context has them. None of an
-    /// active segment, which was dropped, and of one without bytes.
+    /// The bytes of a passive data segment, by its number in the data section, as the context has
+    /// them. None of an active segment, which was dropped, and of one without bytes.
     pub fn passive_data(&self, id: InstanceId, segment: u32) -> Option<&[u8]> {
         let instance = self.instance(id)?;
         let data = instance.plan().passive_data().find(|data| data.segment == segment)?;
@@ -125,8 +126,8 @@ impl<'t> Store<'t> {
         self.instance(id).map(|instance| instance.func_ref(function))
     }
 
-    /// The function that a cell refers to: the instance that defines it, and its index there. None of null, and of
-    /// what is no function.
+    /// The function that a cell refers to: the instance that defines it, and its index there. None
+    /// of null, and of what is no function.
     pub fn function(&self, cell: u64) -> Option<(InstanceId, u32)> {
         let (owner, at) = self.owner(cell)?;
         let layout = owner.plan().structs().func_ref;

@@ -6,7 +6,8 @@ use crate::os::ImageFile;
 use crate::region::RegionLayout;
 use bobbinazure::{ConstExpr, ConstOp, GlobalInit, Items, Plan, SegmentOffset};
 
-/// A module that instances are made of: its plan, its memory images in a file, and what stands where in a region.
+/// A module that instances are made of: its plan, its memory images in a file, and what stands
+/// where in a region.
 #[derive(Debug)]
 pub struct Template<'m> {
     plan: Plan<'m>,
@@ -17,7 +18,8 @@ pub struct Template<'m> {
     pub(crate) layout: RegionLayout,
     /// The engine's index of each interned type.
     pub(crate) types: Vec<u32>,
-    /// The address of the body of each defined function, in rising order. It stands for the code that a compiler makes.
+    /// The address of the body of each defined function, in rising order. It stands for the code
+    /// that a compiler makes.
     pub(crate) codes: Vec<usize>,
 }
 
@@ -25,7 +27,8 @@ impl<'m> Template<'m> {
     /// The template of the module that the bytes spell.
     ///
     /// # Errors
-    /// [`Error::Plan`] where there is no plan; [`Error::Unsupported`], [`Error::TooLarge`], [`Error::System`].
+    /// [`Error::Plan`] where there is no plan; [`Error::Unsupported`], [`Error::TooLarge`],
+    /// [`Error::System`].
     pub fn new(engine: &Engine, bytes: &'m [u8]) -> Result<Self, Error> {
         let plan = Plan::new(bytes, &engine.options())?;
         refuse_unsupported(&plan)?;

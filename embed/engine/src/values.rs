@@ -1,11 +1,12 @@
-//! The values of constant expressions (core specification, 3.3). Each value is its bits: a reference to a function is
-//! an address, one to a number of 31 bits is twice that number and 1, null is 0.
+//! The values of constant expressions (core specification, 3.3). Each value is its bits: a
+//! reference to a function is an address, one to a number of 31 bits is twice that number and 1,
+//! null is 0.
 
 use crate::instance::Instance;
 use bobbinazure::{ConstExpr, ConstOp, Operator};
 
-/// The values of an expression that is evaluated. The planner refuses an expression that takes a value where there
-/// is none.
+/// The values of an expression that is evaluated. The planner refuses an expression that takes a
+/// value where there is none.
 #[derive(Default)]
 struct Stack(Vec<u128>);
 

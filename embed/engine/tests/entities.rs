@@ -50,7 +50,8 @@ fn globals_of_each_type() {
     assert_eq!(store.global(id, 9), None);
 }
 
-/// Functions 0 and 1 of two types, a table whose cells begin as function 1, a passive element segment and passive data.
+/// Functions 0 and 1 of two types, a table whose cells begin as function 1, a passive element
+/// segment and passive data.
 fn with_tables() -> Vec<u8> {
     module(&[
         section(1, &[vec![0x60, 0, 0], vec![0x60, 1, 0x7F, 0]]),

@@ -1,4 +1,5 @@
-//! A thousand instances of each program hold what a plain replay of its plan says, and none sees what another wrote.
+//! A thousand instances of each program hold what a plain replay of its plan says, and none sees
+//! what another wrote.
 
 mod common;
 
@@ -6,8 +7,8 @@ use common::replay::{Cell, State, Value, replay};
 use common::{host, programs};
 use engine::{Config, Engine, Images, InstanceId, Linked, Store, Template};
 
-/// The function that a cell refers to, by the number of its module: the instances of a round are in the order of the
-/// modules.
+/// The function that a cell refers to, by the number of its module: the instances of a round are in
+/// the order of the modules.
 fn cell(store: &Store<'_>, first: &[InstanceId], cell: u64) -> Cell {
     let (owner, function) = store.function(cell)?;
     Some((first.iter().position(|id| *id == owner).expect("an instance of this round"), function))
@@ -33,7 +34,8 @@ fn compare(store: &Store<'_>, round: &[InstanceId], wanted: &State, name: &str) 
     }
 }
 
-/// Writes a few pages of an instance, the first among them, so that another that shares one of these would differ.
+/// Writes a few pages of an instance, the first among them, so that another that shares one of
+/// these would differ.
 fn spoil(store: &mut Store<'_>, id: InstanceId, seed: usize) {
     for memory in 0.. {
         let Some(bytes) = store.memory_mut(id, memory) else { return };

@@ -15,7 +15,8 @@ fn host(offset: i64) -> Vec<u8> {
     ])
 }
 
-/// A function that it puts into the host's table, at cell 1 and at an offset, and a memory that begins as an image.
+/// A function that it puts into the host's table, at cell 1 and at an offset, and a memory that
+/// begins as an image.
 fn late_element(offset: i64) -> Vec<u8> {
     module(&[
         section(1, &[vec![0x60, 0, 0]]),
@@ -128,7 +129,8 @@ fn imports_that_do_not_link() {
     assert_eq!(said(&small), "import \"e\" \"m\" memory 1: the memory is too small");
 }
 
-/// In the standard the table itself is matched, which has four cells. The library goes by what the middle one declares.
+/// In the standard the table itself is matched, which has four cells. The library goes by what the
+/// middle one declares.
 #[test]
 fn what_is_exported_again_counts_as_it_is_declared() {
     let engine = Engine::new(Config::default());

@@ -1,4 +1,5 @@
-/* layout : compiles only where the header's structs have the sizes and offsets that the library's records have. */
+/* layout : compiles only where the header's structs have the sizes and offsets that the library's
+ * records have. */
 #include <bobbinazure_layout.h>
 
 int main(void) {

@@ -1,9 +1,10 @@
-/* link : links small modules, and prints what each import of the second is given by the exports of the first. */
+/* link : links small modules, and prints which export of the first each import of the second is
+ * given. */
 #include <bobbinazure.h>
 #include <stdio.h>
 
-/* It exports a function f, a table t of one to two functions, a memory m of one to two pages, a global g, which is an i32 that cannot be written,
- * and a tag e. */
+/* It exports a function f, a table t of one to two functions, a memory m of one to two pages, a
+ * global g, which is an i32 that cannot be written, and a tag e. */
 static const uint8_t exporter[] = {
     0x00, 0x61, 0x73, 0x6D, 0x01, 0x00, 0x00, 0x00,                         /* the header */
     0x01, 0x0A, 0x02, 0x60, 0x01, 0x7F, 0x01, 0x7F, 0x60, 0x01, 0x7F, 0x00, /* types */
@@ -16,7 +17,8 @@ static const uint8_t exporter[] = {
     0x0A, 0x06, 0x01, 0x04, 0x00, 0x20, 0x00, 0x0B,                         /* code */
 };
 
-/* It imports all of these of m, the last first, but a tag z in place of e, and a memory of two pages at least. */
+/* It imports all of these of m, the last first, but a tag z in place of e, and a memory of two pages
+ * at least. */
 static const uint8_t importer[] = {
     0x00, 0x61, 0x73, 0x6D, 0x01, 0x00, 0x00, 0x00,                         /* the header */
     0x01, 0x0A, 0x02, 0x60, 0x01, 0x7F, 0x00, 0x60, 0x01, 0x7F, 0x01, 0x7F, /* types */

@@ -1,5 +1,6 @@
-/* no_memory FILE.wasm [OPTION].. : lets each allocation of each call fail in turn. Each such call must answer that there is no memory, or plan the
- * module all the same, where the room was only asked for ahead; and once the record is freed no block may be left. Linked with
+/* no_memory FILE.wasm [OPTION].. : lets each allocation of each call fail in turn. Each such call
+ * must answer that there is no memory, or plan the module all the same, where memory was only
+ * reserved ahead. Once the record is freed no block may be left. Linked with
  * -Wl,--wrap=malloc,--wrap=realloc,--wrap=free. */
 #include "files.h"
 

@@ -1,4 +1,5 @@
-/* plan FILE.wasm [--tables] [OPTION].. : prints the plan of a module; with --tables out of its tables alone, which gives the same lines. */
+/* plan FILE.wasm [--tables] [OPTION].. : prints the plan of a module; with --tables out of its tables
+ * alone, which gives the same lines. */
 #include "files.h"
 #include "tables.h"
 

@@ -1,5 +1,6 @@
-/* plan_folder FOLDER [THREADS] [OPTION].. : plans each .wasm file of a folder, with as many threads as there are processors, and prints how many
- * modules and bytes a second. The calls of two threads share nothing. Ends with status 1 where a file cannot be read or memory ends. */
+/* plan_folder FOLDER [THREADS] [OPTION].. : plans each .wasm file of a folder, with as many threads
+ * as there are processors, and prints how many modules and bytes a second. The calls of two threads
+ * share nothing. The status is 1 where a file cannot be read or memory ends. */
 #define _POSIX_C_SOURCE 200809L
 #include "files.h"
 #include <dirent.h>

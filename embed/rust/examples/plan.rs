@@ -1,4 +1,5 @@
-//! plan FILE.wasm [--cow] [--lazy-tables] : prints the plan, and on standard error what an embedder reads of its tables.
+//! plan FILE.wasm [--cow] [--lazy-tables] : prints the plan, and on standard error what an embedder
+//! reads of its tables.
 
 use bobbinazure::{Error, Options, plan_and_text};
 use std::process::ExitCode;

@@ -4,8 +4,9 @@ use crate::numbers::{OF_ENGINE, OF_GROUP, OF_MODULE};
 use crate::plan::{Plan, part};
 use crate::rows::{Field, Span, Type};
 
-/// A recursion group with the index that an engine has for each type outside of it: two groups of any modules are of
-/// equal types exactly where these are equal. It is what an engine's register of types has as its key.
+/// A recursion group with the index that an engine has for each type outside of it: two groups of
+/// any modules are of equal types exactly where these are equal. It is what an engine's register of
+/// types has as its key.
 #[derive(Clone, Debug, PartialEq, Eq, Hash)]
 pub struct CanonicalGroup {
     types: Vec<Type>,

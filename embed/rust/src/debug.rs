@@ -20,7 +20,8 @@ impl<'p> FunctionMetadata<'p> {
 }
 
 impl Plan<'_> {
-    /// The names of locals, by the index of each function and of the local in it, in order. Parameters come first. There are none without `native_debug`.
+    /// The names of locals, by the index of each function and of the local in it, in order.
+    /// Parameters come first. There are none without `native_debug`.
     ///
     /// ```
     /// # let bytes = b"\0asm\x01\0\0\0\x01\x05\x01\x60\x01\x7F\0\x03\x02\x01\0\x0A\x04\x01\x02\0\x0B\0\x0D\x04name\x02\x06\x01\0\x01\0\x01x";

@@ -111,7 +111,8 @@ impl Memory {
         self.minimum.checked_mul(self.page_size())
     }
 
-    /// The greatest size in bytes: without one in pages the greater of the least size and what addresses reach; none past `u64::MAX`.
+    /// The greatest size in bytes: without one in pages the greater of the least size and what
+    /// addresses reach; none past `u64::MAX`.
     ///
     /// ```
     /// # use bobbinazure::Memory;

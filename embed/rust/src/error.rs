@@ -36,7 +36,8 @@ pub enum Error {
         /// Its line, as `refused malformed`.
         line: &'static str,
     },
-    /// The options are wrong: a pointer of other than 4 or 8 bytes, a collector above 1, or a page size that is no power of two.
+    /// The options are wrong: a pointer of other than 4 or 8 bytes, a collector above 1, or a page
+    /// size that is no power of two.
     WrongOptions,
     /// Memory ended.
     OutOfMemory,

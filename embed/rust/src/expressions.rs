@@ -31,7 +31,8 @@ const WORDS: [&str; 22] = [
     "any.convert_extern",
 ];
 
-/// An operator of a constant expression with its immediates, to be matched on. Floats and vectors are their bits.
+/// An operator of a constant expression with its immediates, to be matched on. Floats and vectors
+/// are their bits.
 #[derive(Clone, Copy, Debug, PartialEq, Eq, Hash)]
 pub enum ConstOp {
     /// `i32.const`

@@ -1,4 +1,5 @@
-//! The sizes and the offsets of the records, where pointers have 8 bytes: the header has the same. Made by embed/generate.
+//! The sizes and the offsets of the records, where pointers have 8 bytes: the header has the
+//! same. Made by embed/generate.
 #![cfg(target_pointer_width = "64")]
 
 use crate::list::List;

@@ -13,11 +13,12 @@
 //! # Ok::<(), Box<dyn std::error::Error>>(())
 //! ```
 //!
-//! A [`Plan`] borrows the module's bytes, as in the planner itself, and gives its tables back when it is dropped. [`link`] says of two modules what each
-//! import of the second is given by the exports of the first.
+//! A [`Plan`] borrows the module's bytes, as in the planner itself, and gives its tables back when
+//! it is dropped. [`link`] says of two modules what each import of the second is given by the
+//! exports of the first.
 //!
-//! The library is proved; this crate is not: it holds the calls, the layout and `Drop`. It makes no global state, and calls in several threads do not
-//! meet. It has no dependencies.
+//! The library is proved; this crate is not: it holds the calls, the layout and `Drop`. It makes no
+//! global state, and calls in several threads do not meet. It has no dependencies.
 #![warn(missing_debug_implementations, missing_docs)]
 
 mod bodies;

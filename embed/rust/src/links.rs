@@ -75,7 +75,8 @@ fn answer(row: &ImportAnswer) -> Answer {
     }
 }
 
-/// What each import of the second module is given by the exports of the first, which stand under the name of a module.
+/// What each import of the second module is given by the exports of the first, which stand under
+/// the name of a module.
 ///
 /// # Errors
 /// Which module is refused, the first where both are; wrong options; no memory.

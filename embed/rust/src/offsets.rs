@@ -1,5 +1,6 @@
-//! Where the entries of a context stand, in bytes from its begin. Indices of imports count the imports of a kind, indices of definitions the
-//! defined entities of a kind. The names are those of wasmtime-environ.
+//! Where the entries of a context stand, in bytes from its begin. Indices of imports count the
+//! imports of a kind, indices of definitions the defined entities of a kind. The names are those of
+//! wasmtime-environ.
 
 use crate::plan::Plan;
 

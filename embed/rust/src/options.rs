@@ -2,7 +2,8 @@
 
 use crate::rows::Options;
 
-/// The options of the program without a word: no images, pointers of 8 bytes, the collector that counts, pages of 4096 bytes.
+/// The options of the program without a word: no images, pointers of 8 bytes, the collector that
+/// counts, pages of 4096 bytes.
 impl Default for Options {
     fn default() -> Self {
         Options {

@@ -46,8 +46,8 @@ pub struct Place {
     pub entry: Option<u32>,
     /// The offset of what is wrong; the length of the input where it ends inside its header or a section.
     pub byte: u32,
-    /// Input that begins with so many of these bytes is refused too; `None` where it ends inside its header, a size or a
-    /// section.
+    /// Input that begins with so many of these bytes is refused too; `None` where it ends inside
+    /// its header, a size or a section.
     pub decided: Option<u32>,
     /// What is wrong, from [`numbers::FAULT_HEADER`](crate::numbers::FAULT_HEADER) on.
     pub fault: u32,
@@ -61,8 +61,9 @@ impl fmt::Display for Place {
     }
 }
 
-/// Says where and why bytes are malformed or not supported; `None` where they are read as a module, and where there are
-/// 2^30 bytes or more. It reads the bytes once more, so it is for refused modules.
+/// Says where and why bytes are malformed or not supported; `None` where they are read as a module,
+/// and where there are 2^30 bytes or more. It reads the bytes once more, so it is for refused
+/// modules.
 ///
 /// # Errors
 /// No memory.
@@ -115,8 +116,8 @@ impl fmt::Display for BrokenRule {
     }
 }
 
-/// Says which rule a module breaks, where and why; `None` where the bytes are not read as a module, and where it keeps
-/// the rules. For modules that were refused as invalid.
+/// Says which rule a module breaks, where and why; `None` where the bytes are not read as a module,
+/// and where it keeps the rules. For modules that were refused as invalid.
 ///
 /// # Errors
 /// No memory.

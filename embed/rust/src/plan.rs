@@ -35,8 +35,9 @@ impl Drop for Text {
 
 /// The plan of a module, whose bytes it borrows.
 ///
-/// Its methods have the words of wasmtime-environ. Indices are those of the module: imported entities come before defined ones, and types are the
-/// interned ones unless a method says otherwise. A plan is plain data: it can be sent to another thread and shared.
+/// Its methods have the words of wasmtime-environ. Indices are those of the module: imported
+/// entities come before defined ones, and types are the interned ones unless a method says
+/// otherwise. A plan is plain data: it can be sent to another thread and shared.
 pub struct Plan<'d> {
     pub(crate) record: Box<PlanRecord>,
     pub(crate) module: &'d [u8],
@@ -60,7 +61,8 @@ impl<'d> Plan<'d> {
     /// The plan of the module that the bytes spell.
     ///
     /// # Errors
-    /// [`Error::Refused`] where they spell none, or one that breaks a listed rule; [`Error::WrongOptions`], [`Error::OutOfMemory`].
+    /// [`Error::Refused`] where they spell none, or one that breaks a listed rule;
+    /// [`Error::WrongOptions`], [`Error::OutOfMemory`].
     ///
     /// ```
     /// use bobbinazure::{Options, Plan};
@@ -116,7 +118,8 @@ impl Plan<'_> {
         &self.record.context
     }
 
-    /// The structs that compiled code reads: the size of each, which is the stride of its array in the context, and where its fields begin.
+    /// The structs that compiled code reads: the size of each, which is the stride of its array in
+    /// the context, and where its fields begin.
     ///
     /// ```
     /// # let bytes = std::fs::read(concat!(env!("CARGO_MANIFEST_DIR"), "/../../examples/linked.wasm"))?;

@@ -29,7 +29,8 @@ pub(crate) struct ElementItemsRecord {
 #[repr(C)]
 #[derive(Default)]
 pub(crate) struct PlanRecord {
-    /// Why the module is refused, from [`numbers::MALFORMED`](crate::numbers::MALFORMED) on; 0 of a plan.
+    /// Why the module is refused, from [`numbers::MALFORMED`](crate::numbers::MALFORMED) on; 0 of a
+    /// plan.
     pub(crate) refusal: u32,
     /// Of an invalid module the rule that it breaks, from 1 to 10; of an unsupported one what is
     /// not supported, from [`numbers::COMPONENT`](crate::numbers::COMPONENT) on.
@@ -38,8 +39,8 @@ pub(crate) struct PlanRecord {
     pub(crate) refusal_line: List<u8>,
     /// How many entities there are.
     pub(crate) entities: Entities,
-    /// When the startup function runs, from [`numbers::STARTUP_NONE`](crate::numbers::STARTUP_NONE) on: never, always, or where
-    /// a memory does not begin as its image.
+    /// When the startup function runs, from [`numbers::STARTUP_NONE`](crate::numbers::STARTUP_NONE)
+    /// on: never, always, or where a memory does not begin as its image.
     pub(crate) startup: u32,
     /// The interned type of the startup function; 0 where none runs.
     pub(crate) startup_type: u32,

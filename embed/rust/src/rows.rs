@@ -117,8 +117,8 @@ pub struct Span {
 #[repr(C)]
 #[derive(Clone, Copy, Debug, PartialEq, Eq, Hash, Default)]
 pub struct Value {
-    /// What it is, from [`numbers::I32`](crate::numbers::I32) on: 0 to 4 a number or a vector, 5 a reference, 6 and 7 a
-    /// packed integer.
+    /// What it is, from [`numbers::I32`](crate::numbers::I32) on: 0 to 4 a number or a vector, 5 a
+    /// reference, 6 and 7 a packed integer.
     pub kind: u8,
     /// Whether the reference may be null.
     pub nullable: bool,
@@ -200,8 +200,8 @@ pub struct Segment {
     pub memory: u32,
     /// The runtime data that it writes.
     pub runtime: u32,
-    /// How `offset` gives its address, from [`numbers::AT_BYTE`](crate::numbers::AT_BYTE) on: 0 as a planned address, 1 as
-    /// a constant, 2 as a global, 3 not at all.
+    /// How `offset` gives its address, from [`numbers::AT_BYTE`](crate::numbers::AT_BYTE) on: 0 as
+    /// a planned address, 1 as a constant, 2 as a global, 3 not at all.
     pub kind: u32,
     /// The address in bytes, or the index of the global that holds it; 0 where another expression
     /// gives it.
@@ -251,7 +251,8 @@ pub struct Locals {
     /// How many locals.
     pub count: u32,
     /// Their type. In `locals` a type of the module is named by the type section: `list` is
-    /// [`numbers::OF_SECTION`](crate::numbers::OF_SECTION), and `heap` is [`numbers::HEAP_DECLARED`](crate::numbers::HEAP_DECLARED).
+    /// [`numbers::OF_SECTION`](crate::numbers::OF_SECTION), and `heap` is
+    /// [`numbers::HEAP_DECLARED`](crate::numbers::HEAP_DECLARED).
     pub value: Value,
 }
 
@@ -263,7 +264,8 @@ pub struct Operator {
     pub code: u8,
     /// What a null reference is to, from [`numbers::HEAP_EXTERN`](crate::numbers::HEAP_EXTERN) on.
     pub heap: u8,
-    /// Which list the index of a null reference is of, from [`numbers::NO_INDEX`](crate::numbers::NO_INDEX) on.
+    /// Which list the index of a null reference is of, from
+    /// [`numbers::NO_INDEX`](crate::numbers::NO_INDEX) on.
     pub list: u8,
     /// The global, the function or the type that it names.
     pub index: u32,
@@ -300,8 +302,8 @@ pub struct Hints {
 pub struct BranchHint {
     /// The function, by its index.
     pub function: u32,
-    /// Where the branch is, in bytes from the beginning of the function's body, which begins with its
-    /// locals.
+    /// Where the branch is, in bytes from the beginning of the function's body, which begins with
+    /// its locals.
     pub offset: u32,
     /// Whether it is likely to be taken.
     pub taken: u32,
@@ -359,8 +361,8 @@ pub struct Export {
 pub struct Layout {
     /// The interned type.
     pub ty: u32,
-    /// What its objects are, from [`numbers::ARRAY_OBJECT`](crate::numbers::ARRAY_OBJECT) on: 0 an array, 1 a struct, 2 an
-    /// exception.
+    /// What its objects are, from [`numbers::ARRAY_OBJECT`](crate::numbers::ARRAY_OBJECT) on: 0 an
+    /// array, 1 a struct, 2 an exception.
     pub kind: u32,
     /// The size of an object in bytes; of an array, the bytes before its elements.
     pub size: u32,
@@ -388,18 +390,18 @@ pub struct LayoutField {
 #[repr(C)]
 #[derive(Clone, Copy, Debug, PartialEq, Eq, Hash, Default)]
 pub struct Type {
-    /// What it is, from [`numbers::ARRAY`](crate::numbers::ARRAY) on: 0 an array, 1 a function, 2 a struct, 3 a
-    /// continuation, 4 an exception.
+    /// What it is, from [`numbers::ARRAY`](crate::numbers::ARRAY) on: 0 an array, 1 a function, 2 a
+    /// struct, 3 a continuation, 4 an exception.
     pub kind: u8,
     /// Whether it can have no subtypes.
     pub is_final: bool,
     /// Whether threads may share what is of it.
     pub shared: bool,
-    /// Which list the supertype is of, from [`numbers::NO_INDEX`](crate::numbers::NO_INDEX) on, which says that there is
-    /// none.
+    /// Which list the supertype is of, from [`numbers::NO_INDEX`](crate::numbers::NO_INDEX) on,
+    /// which says that there is none.
     pub supertype_list: u8,
-    /// Which list the function type is of, from [`numbers::NO_INDEX`](crate::numbers::NO_INDEX) on, which says that there is
-    /// none.
+    /// Which list the function type is of, from [`numbers::NO_INDEX`](crate::numbers::NO_INDEX) on,
+    /// which says that there is none.
     pub function_list: u8,
     /// The supertype.
     pub supertype: u32,
@@ -684,8 +686,8 @@ pub struct LocalName {
     pub(crate) name: List<u8>,
 }
 
-/// Where and why a module is malformed or not supported. Offsets count the bytes of the module, from
-/// 0 on.
+/// Where and why a module is malformed or not supported. Offsets count the bytes of the module,
+/// from 0 on.
 #[repr(C)]
 #[derive(Default)]
 pub struct Place {
@@ -695,8 +697,8 @@ pub struct Place {
     pub section_start: u32,
     /// The entry of the section, from 0 on, where an entry is wrong; else `u32::MAX`.
     pub entry: u32,
-    /// Where the wrong entry or part begins; the length of the module where it ends inside its header
-    /// or a section.
+    /// Where the wrong entry or part begins; the length of the module where it ends inside its
+    /// header or a section.
     pub byte: u32,
     /// Whatever follows so many of these bytes, it is refused; `u32::MAX` where the module ends too
     /// early.
@@ -709,20 +711,22 @@ pub struct Place {
     pub made: u32,
 }
 
-/// The first rule that a module breaks, and the first entry that breaks it, in the first of the lists
-/// of the rule that has one.
+/// The first rule that a module breaks, and the first entry that breaks it, in the first of the
+/// lists of the rule that has one.
 #[repr(C)]
 #[derive(Default)]
 pub struct BrokenRule {
     /// The rule, from 1 to 10.
     pub rule: u32,
-    /// The list that has the entry: a number from [`numbers::IN_TYPES`](crate::numbers::IN_TYPES) on.
+    /// The list that has the entry: a number from [`numbers::IN_TYPES`](crate::numbers::IN_TYPES)
+    /// on.
     pub list: u32,
     /// The index of the entry in that list, from 0 on.
     pub entry: u32,
     /// The id of the section that has it: of an import, the import section.
     pub section: u32,
-    /// The entry of that section, from 0 on: of a type, its group. 0 in a start or data count section.
+    /// The entry of that section, from 0 on: of a type, its group. 0 in a start or data count
+    /// section.
     pub section_entry: u32,
     /// The offset at which the section's entry begins.
     pub byte: u32,

@@ -30,8 +30,9 @@ pub struct Section<'a> {
     pub name: Option<&'a str>,
 }
 
-/// The sections of the bytes in order, as far as each has an id, a size and all its contents, also where the bytes are no
-/// module. Empty where the header is wrong, and where there are 2^30 bytes or more.
+/// The sections of the bytes in order, as far as each has an id, a size and all its contents, also
+/// where the bytes are no module. Empty where the header is wrong, and where there are 2^30 bytes
+/// or more.
 ///
 /// # Errors
 /// No memory.

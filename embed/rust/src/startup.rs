@@ -214,9 +214,10 @@ impl Plan<'_> {
         self.record.runtime_ranges.as_slice().iter().map(|row| row.begin..row.end)
     }
 
-    /// The images of memories, by the index of each. If a kept element segment can trap, write the element segments before you map
-    /// images, or drop the instance's memories after such a trap: code in an imported table could see data early. If you map no image
-    /// and write each segment yourself, there is no exception.
+    /// The images of memories, by the index of each. If a kept element segment can trap, write the
+    /// element segments before you map images, or drop the instance's memories after such a trap:
+    /// code in an imported table could see data early. If you map no image and write each segment
+    /// yourself, there is no exception.
     ///
     /// ```
     /// # let bytes = std::fs::read(concat!(env!("CARGO_MANIFEST_DIR"), "/../../examples/linked.wasm"))?;
@@ -253,7 +254,8 @@ impl Plan<'_> {
         })
     }
 
-    /// The passive data segments that keep their bytes: what `memory.init` and `data.drop` name. One without bytes is not among them.
+    /// The passive data segments that keep their bytes: what `memory.init` and `data.drop` name.
+    /// One without bytes is not among them.
     ///
     /// ```
     /// # let bytes = std::fs::read(concat!(env!("CARGO_MANIFEST_DIR"), "/../../examples/linked.wasm"))?;
@@ -267,7 +269,8 @@ impl Plan<'_> {
         self.record.passive.as_slice().iter().map(data)
     }
 
-    /// The first cells of each defined table: functions by their indices, `u32::MAX` for the null reference. Cells behind them are null.
+    /// The first cells of each defined table: functions by their indices, `u32::MAX` for the null
+    /// reference. Cells behind them are null.
     ///
     /// ```
     /// # let bytes = std::fs::read(concat!(env!("CARGO_MANIFEST_DIR"), "/../../examples/linked.wasm"))?;
@@ -326,12 +329,14 @@ impl Plan<'_> {
         rows.map(|(place, row)| PassiveElements { element: row.element.into(), items: items(&self.record.passive_items, place) })
     }
 
-    /// Which segments of the element section are passive, and the number of each among those: what `table.init` and `elem.drop` name.
+    /// Which segments of the element section are passive, and the number of each among those: what
+    /// `table.init` and `elem.drop` name.
     pub fn passive_elem_map(&self) -> impl ExactSizeIterator<Item = (u32, u32)> {
         self.record.passive_segments.as_slice().iter().map(|row| (row.segment, row.passive))
     }
 
-    /// How the defined globals begin, by the index of each among those: those of a known value, then those of an expression.
+    /// How the defined globals begin, by the index of each among those: those of a known value,
+    /// then those of an expression.
     ///
     /// ```
     /// # let bytes = std::fs::read(concat!(env!("CARGO_MANIFEST_DIR"), "/../../examples/linked.wasm"))?;

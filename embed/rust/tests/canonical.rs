@@ -14,7 +14,8 @@ const ONE: &[u8] = &[
     0x5F, 0x01, 0x63, 0x02, 0x00, // struct (ref null 2)
 ];
 
-/// (func (param i32)), (func), and the same three groups as of the first from the second one on, then the last once more over another function type.
+/// (func (param i32)), (func), and the same three groups as of the first from the second one on,
+/// then the last once more over another function type.
 const OTHER: &[u8] = &[
     0x00, 0x61, 0x73, 0x6D, 0x01, 0x00, 0x00, 0x00, // the header
     0x01, 0x2B, 0x05, // types
@@ -29,7 +30,8 @@ const OTHER: &[u8] = &[
     0x5F, 0x01, 0x63, 0x05, 0x00, // struct (ref null 5)
 ];
 
-/// An engine's indices of the types of a module: the first new group begins at the number of types that were seen.
+/// An engine's indices of the types of a module: the first new group begins at the number of types
+/// that were seen.
 fn register(seen: &mut HashMap<CanonicalGroup, u32>, next: &mut u32, bytes: &[u8]) -> Vec<u32> {
     let plan = Plan::new(bytes, &Options::default()).expect("it is planned");
     let mut indices = Vec::new();

@@ -2,8 +2,8 @@
 
 use bobbinazure::{Answer, LinkError, Options, Plan, Reason, link};
 
-/// It exports a function `f`, a table `t` of one to two functions, a memory `m` of one to two pages, a global `g` that is an i32 and cannot be
-/// written, and a tag `e`.
+/// It exports a function `f`, a table `t` of one to two functions, a memory `m` of one to two
+/// pages, a global `g` that is an i32 and cannot be written, and a tag `e`.
 const EXPORTER: [u8; 81] = [
     0x00, 0x61, 0x73, 0x6D, 0x01, 0x00, 0x00, 0x00, // the header
     0x01, 0x0A, 0x02, 0x60, 0x01, 0x7F, 0x01, 0x7F, 0x60, 0x01, 0x7F, 0x00, // types

@@ -1,4 +1,5 @@
-//! What the text does not tell: bodies, items of element segments, branch hints, debug information, and the structs of a target.
+//! What the text does not tell: bodies, items of element segments, branch hints, debug information,
+//! and the structs of a target.
 
 use bobbinazure::{Items, Options, Plan, numbers};
 

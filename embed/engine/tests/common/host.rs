@@ -1,4 +1,5 @@
-//! Modules that export what a program imports, so that it can be linked by the library as any two modules are.
+//! Modules that export what a program imports, so that it can be linked by the library as any two
+//! modules are.
 
 use super::spelling::{constant, data, elements, export, limits, module, section, signed, sized, unsigned};
 use bobbinazure::{CompositeType, EntityIndex, Fields, Import, Plan, StorageType, ValType};

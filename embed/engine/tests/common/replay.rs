@@ -1,5 +1,6 @@
-//! What an instance holds, by a plain replay of the text of a plan without images: no address is mapped, and no table
-//! of the plan is used but those of bytes and items, which the text does not have.
+//! What an instance holds, by a plain replay of the text of a plan without images: no address is
+//! mapped, and no table of the plan is used but those of bytes and items, which the text does not
+//! have.
 
 use bobbinazure::{EntityIndex, Items, Options, Plan, plan_and_text};
 use std::collections::HashMap;
@@ -125,7 +126,8 @@ fn number_and_rest(line: &str) -> (usize, &str) {
     (number.parse().expect("a number"), rest)
 }
 
-/// What an instance of a module of this number holds, which imports from others by their names, up to its first trap.
+/// What an instance of a module of this number holds, which imports from others by their names, up
+/// to its first trap.
 pub fn replay(bytes: &[u8], number: usize, from: &[(&str, &State)]) -> State {
     let (plan, text) = plan_and_text(bytes, &Options::default()).expect("it is planned");
     let mut state = State::default();
