@@ -94,6 +94,15 @@ enum {
     BOBBINAZURE_IN_SEGMENTS = 13
 };
 
+/* What makes a module too large: the field `kind`. */
+enum {
+    BOBBINAZURE_EXCESS_INPUT = 1,     /* the module has 2^30 bytes or more */
+    BOBBINAZURE_EXCESS_IMAGE = 2,     /* with the image of a memory, runtime data pass 4294967295 bytes */
+    BOBBINAZURE_EXCESS_OBJECT = 3,    /* an object of a type has more than 4294967295 bytes */
+    BOBBINAZURE_EXCESS_EXCEPTION = 4, /* an exception of a tag has */
+    BOBBINAZURE_EXCESS_CONTEXT = 5    /* the context of an instance has */
+};
+
 /* How the offset of a segment is given: the field `kind`. */
 enum {
     BOBBINAZURE_AT_BYTE = 0,        /* offset: the offset itself, which the planner computed */
@@ -908,6 +917,25 @@ typedef struct {
     uint32_t made;
 } bobbinazure_broken_rule;
 
+/* What makes a module too large to be planned, and where it is. */
+typedef struct {
+    uint32_t kind;              /* What it is: a number from BOBBINAZURE_EXCESS_INPUT on. */
+    /* The index of the memory, the type or the tag; BOBBINAZURE_NONE of the input and the
+       context. */
+    uint32_t index;
+    /* The id of the section that has it: of an import, the import section; BOBBINAZURE_NONE of
+       the input and the context. */
+    uint32_t section;
+    /* The entry of that section, from 0 on: of a type, its group. 0 of the input and the
+       context. */
+    uint32_t section_entry;
+    /* The offset at which the section's entry begins; 0 of the input and the context. */
+    uint32_t byte;
+    bobbinazure_bytes sentence; /* A sentence for people, in UTF-8, without a zero at the end. */
+    /* Whether the sentence is in memory of its own, which bobbinazure_excess_free frees. */
+    uint32_t made;
+} bobbinazure_excess;
+
 /* A section of a module. Offsets count the bytes of the module, from 0 on. */
 typedef struct {
     uint32_t id;       /* The id; no section of a module has one above 13. */
@@ -987,6 +1015,19 @@ uint32_t bobbinazure_locate(const uint8_t *bytes, size_t len, bobbinazure_place 
  *   NO_MEMORY      it is unchanged */
 uint32_t bobbinazure_locate_rule(const uint8_t *bytes, size_t len, bobbinazure_broken_rule *broken);
 
+/* Says what makes a module too large to be planned with the options, and where: call it after TOO_LARGE
+ * or OFFSET_OVERFLOW. It plans the module again.
+ *
+ * `excess` must come from bobbinazure_excess_init, and bobbinazure_excess_free frees it. It does not
+ * point into the bytes. Of memories, types and tags it names the first, in this order.
+ *
+ *   PLANNED        it is not too large; `excess` is unchanged
+ *   REFUSED        it says what is too large, and where
+ *   NO_MEMORY      it is unchanged
+ *   WRONG_OPTIONS  it is unchanged */
+uint32_t bobbinazure_locate_excess(const uint8_t *bytes, size_t len, const bobbinazure_options *options,
+                                   bobbinazure_excess *excess);
+
 /* Lists the sections of the bytes, also where they are no module: none where the header is wrong, and
  * where there are 2^30 bytes or more.
  *
@@ -1052,6 +1093,11 @@ static inline bobbinazure_broken_rule bobbinazure_broken_rule_init(void) {
     return broken;
 }
 
+static inline bobbinazure_excess bobbinazure_excess_init(void) {
+    bobbinazure_excess excess = {0, BOBBINAZURE_NONE, BOBBINAZURE_NONE, 0, 0, {(const uint8_t *)"", 0}, 0};
+    return excess;
+}
+
 static inline bobbinazure_link_record bobbinazure_link_init(void) {
     static const uint64_t nothing[4] = {0, 0, 0, 0};
     const void *at = nothing;
@@ -1096,6 +1142,11 @@ static inline void bobbinazure_place_free(bobbinazure_place *place) {
 static inline void bobbinazure_broken_rule_free(bobbinazure_broken_rule *broken) {
     if (broken->made && broken->sentence.len) free((void *)broken->sentence.at);
     *broken = bobbinazure_broken_rule_init();
+}
+
+static inline void bobbinazure_excess_free(bobbinazure_excess *excess) {
+    if (excess->made && excess->sentence.len) free((void *)excess->sentence.at);
+    *excess = bobbinazure_excess_init();
 }
 
 static inline void bobbinazure_link_free(bobbinazure_link_record *links) {

@@ -419,6 +419,15 @@ BOBBINAZURE_AT(broken_rule, byte, 20);
 BOBBINAZURE_AT(broken_rule, sentence, 24);
 BOBBINAZURE_AT(broken_rule, made, 40);
 
+BOBBINAZURE_SIZE(excess, 48);
+BOBBINAZURE_AT(excess, kind, 0);
+BOBBINAZURE_AT(excess, index, 4);
+BOBBINAZURE_AT(excess, section, 8);
+BOBBINAZURE_AT(excess, section_entry, 12);
+BOBBINAZURE_AT(excess, byte, 16);
+BOBBINAZURE_AT(excess, sentence, 24);
+BOBBINAZURE_AT(excess, made, 40);
+
 BOBBINAZURE_SIZE(section, 40);
 BOBBINAZURE_AT(section, id, 0);
 BOBBINAZURE_AT(section, start, 4);

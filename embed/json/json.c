@@ -1,6 +1,6 @@
 /* json plan [OPTION].. < FILE.wasm : prints the plan of a module as one JSON object, out of the tables alone.
- * json locate < FILE.wasm : prints where and why a module is malformed, invalid or not supported, as
- *                           one line.
+ * json locate [OPTION].. < FILE.wasm : prints where and why a module is malformed, invalid, not
+ *                           supported or too large, as one line.
  *
  * keys.txt has the keys. The words and the exit status are those of the program dist/translate. */
 #include "layouts.h"
@@ -401,7 +401,25 @@ static void put_broken_rule(const uint8_t *module, size_t len) {
     bobbinazure_broken_rule_free(&broken);
 }
 
-static void put_refusal(const bobbinazure_plan *plan, const uint8_t *module, size_t len) {
+static void put_excess(const uint8_t *module, size_t len, const bobbinazure_options *options) {
+    static const char *const kinds[] = {"", "input", "image", "object", "exception", "context"};
+    bobbinazure_excess excess = bobbinazure_excess_init();
+    if (bobbinazure_locate_excess(module, len, options, &excess) == BOBBINAZURE_REFUSED) {
+        int placed = excess.section != BOBBINAZURE_NONE;
+        open_object("excess");
+        word("kind", kinds[excess.kind]);
+        index_or_null("index", excess.index);
+        index_or_null("byte", placed ? excess.byte : BOBBINAZURE_NONE);
+        index_or_null("section", excess.section);
+        index_or_null("section_entry", placed ? excess.section_entry : BOBBINAZURE_NONE);
+        bytes("sentence", excess.sentence);
+        close_object();
+    } else null("excess");
+    bobbinazure_excess_free(&excess);
+}
+
+static void put_refusal(const bobbinazure_plan *plan, const uint8_t *module, size_t len,
+                        const bobbinazure_options *options) {
     static const char *const causes[] = {"", "malformed", "invalid", "unsupported", "too large", "offset overflow"};
     static const char *const parts[] = {"", "component", "shared", "supertypes", "operator",
                                         "exact import", "interface types"};
@@ -412,6 +430,7 @@ static void put_refusal(const bobbinazure_plan *plan, const uint8_t *module, siz
     else null("part");
     put_refused_at(module, len);
     put_broken_rule(module, len);
+    put_excess(module, len, options);
     close_object();
 }
 
@@ -423,7 +442,7 @@ static int print_json(const uint8_t *module, size_t len, const bobbinazure_optio
     if (status == BOBBINAZURE_PLANNED || status == BOBBINAZURE_REFUSED) {
         open_object(0);
         if (status == BOBBINAZURE_PLANNED) put_plan(&plan, module);
-        else put_refusal(&plan, module, len);
+        else put_refusal(&plan, module, len, options);
         put_sections(&list);
         fputs("\n}\n", stdout);
         if (fflush(stdout) || ferror(stdout)) status = WRITE_FAILED;
@@ -437,8 +456,19 @@ static void print_sentence(uint32_t byte, bobbinazure_bytes sentence) {
     printf("byte %" PRIu32 ", %.*s\n", byte, (int)sentence.len, (const char *)sentence.at);
 }
 
-/* Prints the place at which a module is refused, or the entry that breaks a rule, if there is one. */
-static int print_place(const uint8_t *module, size_t len) {
+/* Prints what makes a module too large, and where it is, if it is too large. */
+static uint32_t print_excess(const uint8_t *module, size_t len, const bobbinazure_options *options) {
+    bobbinazure_excess excess = bobbinazure_excess_init();
+    uint32_t status = bobbinazure_locate_excess(module, len, options, &excess);
+    int placed = excess.section != BOBBINAZURE_NONE;
+    if (status == BOBBINAZURE_REFUSED && placed) print_sentence(excess.byte, excess.sentence);
+    else if (status == BOBBINAZURE_REFUSED) printf("%.*s\n", (int)excess.sentence.len, (const char *)excess.sentence.at);
+    bobbinazure_excess_free(&excess);
+    return status;
+}
+
+/* Prints where a module is refused, which entry breaks a rule, or what is too large, if there is one. */
+static int print_place(const uint8_t *module, size_t len, const bobbinazure_options *options) {
     bobbinazure_place place = bobbinazure_place_init();
     bobbinazure_broken_rule broken = bobbinazure_broken_rule_init();
     uint32_t status = bobbinazure_locate(module, len, &place);
@@ -449,6 +479,7 @@ static int print_place(const uint8_t *module, size_t len) {
         if (status == BOBBINAZURE_REFUSED) print_sentence(broken.byte, broken.sentence);
         bobbinazure_broken_rule_free(&broken);
     }
+    if (status == BOBBINAZURE_PLANNED) status = print_excess(module, len, options);
     return (int)status;
 }
 
@@ -499,7 +530,7 @@ static int read_module(uint8_t **module, size_t *len) {
 
 int main(int argc, char **argv) {
     bobbinazure_options options = bobbinazure_options_init();
-    int seen = 0, locates = argc == 2 && !strcmp(argv[1], "locate");
+    int seen = 0, locates = argc > 1 && !strcmp(argv[1], "locate");
     if (argc < 2 || (!locates && strcmp(argv[1], "plan"))) return BOBBINAZURE_WRONG_OPTIONS;
     for (int i = 2; i < argc; i++) {
         int option = set_option(&options, argv[i]);
@@ -510,7 +541,7 @@ int main(int argc, char **argv) {
     uint8_t *module;
     size_t len;
     int status = read_module(&module, &len);
-    if (!status) status = locates ? print_place(module, len) : print_json(module, len, &options);
+    if (!status) status = locates ? print_place(module, len, &options) : print_json(module, len, &options);
     free(module);
     return status;
 }

@@ -40,6 +40,14 @@ CALL(page_broken_rule_free)(bobbinazure_broken_rule *broken) {
     bobbinazure_broken_rule_free(broken);
 }
 
+CALL(page_excess_init)(bobbinazure_excess *excess) {
+    *excess = bobbinazure_excess_init();
+}
+
+CALL(page_excess_free)(bobbinazure_excess *excess) {
+    bobbinazure_excess_free(excess);
+}
+
 CALL(page_link_record_init)(bobbinazure_link_record *links) {
     *links = bobbinazure_link_init();
 }

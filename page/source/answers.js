@@ -109,6 +109,7 @@ function refusalCard(plan) {
 function wherePart(plan, place) {
   if (!place) return ["the planner names no single byte for it."];
   const { at, sentence, section } = place, title = section?.title ? ` “${section.title}”` : "";
+  if (at === null) return [`${sentence}.`];
   const where = section ? `, in the ${section.name} section (${section.id})${title}` : "";
   // The planner's sentence names the section first.
   const what = section ? sentence.replace(`${section.name} section`, "") : `: ${sentence}`;

@@ -9,7 +9,7 @@ const NONE = 2 ** 32 - 1;
 const UNBOUNDED = 2n ** 64n - 1n;
 
 // The calls that say where a module is refused, by the records that they fill.
-const LOCATORS = { place: "bobbinazure_locate", broken_rule: "bobbinazure_locate_rule" };
+const LOCATORS = { place: "bobbinazure_locate", broken_rule: "bobbinazure_locate_rule", excess: "bobbinazure_locate_excess" };
 
 // A module's memory has no room for what is asked.
 class NoRoom extends Error {}
@@ -74,9 +74,11 @@ class Planner {
   }
 
   // Where a module is refused, whose bytes stand here, and why: a record of this kind, or null
-  // where the call fills none.
-  locate(kind, input, length) {
-    const record = this.begun(kind), status = this.calls[LOCATORS[kind]](...[input, length, record].map(BigInt));
+  // where the call fills none. What is too large depends on the options, which are those of the
+  // record at this place.
+  locate(kind, input, length, options) {
+    const record = this.begun(kind), words = kind === "excess" ? [input, length, options, record] : [input, length, record];
+    const status = this.calls[LOCATORS[kind]](...words.map(BigInt));
     const told = this.read(kind, record), place = status === this.layout.numbers.refused ? { ...told, sentence: told.sentence.text } : null;
     this.calls[`page_${kind}_free`](BigInt(record));
     this.free(record);

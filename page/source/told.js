@@ -4,7 +4,7 @@
 const PREVIEW = 24;
 const FEW = 12;
 // The record that has the place of a refusal, by its kind.
-const RECORDS = { malformed: "place", unsupported: "place", invalid: "broken_rule" };
+const RECORDS = { malformed: "place", unsupported: "place", invalid: "broken_rule", too_large: "excess", offset_overflow: "excess" };
 
 class Told {
   constructor(planner, name, bytes, options) {
@@ -26,7 +26,7 @@ class Told {
   // Where the planner says that the module is refused, and why; null where that has no single byte.
   locate() {
     const record = RECORDS[this.causeOf(this.plan).kind];
-    return record === undefined ? null : this.planner.locate(record, this.answer.input, this.size);
+    return record === undefined ? null : this.planner.locate(record, this.answer.input, this.size, this.answer.places.options);
   }
 
   // What takes time besides the plan, in steps that can be told.
@@ -76,10 +76,10 @@ class Told {
     return { ...this.causeOf(this.plan), line: this.lines.line(0), place: this.located && this.placeOf(this.located), file: fileOf(this.module) };
   }
 
-  // The place of a refusal, with the name of its section.
-  placeOf({ byte, sentence, section: id, section_start: start }) {
+  // The place of a refusal, with the name of its section. An input or a context that is too large has none.
+  placeOf({ byte, sentence, index, section: id, section_start: start }) {
     const section = id === NONE ? null : { id, name: SECTIONS[id], title: this.places.sections.find(({ from }) => from === start)?.title };
-    return { at: byte, sentence, section };
+    return { at: index === NONE ? null : byte, sentence, section };
   }
 
   // Why a record says that a module is refused.

@@ -87,7 +87,7 @@ function checkHeap({ parts, compiled, report }) {
   const planner = new parts.Planner(compiled, parts.layout), options = optionsOf(["--cow", "--lazy-tables"]), size = () => planner.calls.memory.buffer.byteLength;
   const run = bytes => {
     const answer = planner.make(bytes, options);
-    for (const record of ["place", "broken_rule"]) planner.locate(record, answer.input, bytes.length);
+    for (const record of ["place", "broken_rule", "excess"]) planner.locate(record, answer.input, bytes.length, answer.places.options);
     planner.drop(answer);
   };
   const runs = count => { for (let i = 0; i < count; i++) run([parts.linked, parts.overlap.subarray(0, i % 31), BROKEN[i % BROKEN.length].bytes][i % 3]); };

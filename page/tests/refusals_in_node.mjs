@@ -45,7 +45,7 @@ function checkCases({ told, root, report }) {
     if (it.at !== null) compared++;
     if (wanted !== null && !same(found.located && spotIn(found.located), wanted)) wrong.push(`${words}: ${JSON.stringify(found.located)}, not ${it.at}`);
     if (it.at === "none" && found.planner.locate("place", found.answer.input, found.size) !== null) wrong.push(`${words}: it is read whole`);
-    if (refusal && !refusal.place && !["too_large", "offset_overflow"].includes(refusal.kind)) unfound.push(`${words}: ${refusal.line}`);
+    if (refusal && !refusal.place) unfound.push(`${words}: ${refusal.line}`);
   }
   report(`each of ${compared} cases that say where they are refused has that place`, () => compared > 150 && wrong.length === 0, wrong);
   report("each refusal has its place, where there is one", () => unfound.length === 0, unfound);

@@ -94,17 +94,25 @@ fn wrong_end<'a>(expected: &'a Expected, outcome: &Outcome) -> Option<Difference
     None
 }
 
-/// The spot of a refusal.
-fn spot_of(refusal: Refusal) -> Spot {
+/// The spot of a refusal; an input and a context that are too large have none.
+fn spot_of(refusal: Refusal) -> Option<Spot> {
     match refusal {
-        Refusal::Unread(place) => Spot {
+        Refusal::Unread(place) => Some(Spot {
             byte: u64::from(place.byte),
             entry: place.entry.map(u64::from),
-        },
-        Refusal::Broken(broken) => Spot {
-            byte: u64::from(broken.byte),
-            entry: Some(u64::from(broken.section_entry)),
-        },
+        }),
+        Refusal::Broken(broken) => Some(entry_spot(broken.byte, broken.section_entry)),
+        Refusal::Large(excess) => excess
+            .place
+            .map(|place| entry_spot(place.byte, place.section_entry)),
+    }
+}
+
+/// The spot of an entry.
+fn entry_spot(byte: u32, entry: u32) -> Spot {
+    Spot {
+        byte: u64::from(byte),
+        entry: Some(u64::from(entry)),
     }
 }
 
@@ -123,7 +131,7 @@ fn wanted_spot(at: At, outcome: &Outcome) -> Option<Spot> {
 /// The place of the refusal, where the case says another.
 fn wrong_place<'a>(expected: &Expected, outcome: &Outcome) -> Option<Difference<'a>> {
     match expected.at {
-        Some(at) if outcome.refusal.map(spot_of) != wanted_spot(at, outcome) => {
+        Some(at) if outcome.refusal.and_then(spot_of) != wanted_spot(at, outcome) => {
             Some(Difference::Place(outcome.refusal))
         }
         _ => None,

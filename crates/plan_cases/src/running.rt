@@ -4,10 +4,11 @@ use crate::case::{Case, CaseError, Given};
 use devices::{ListSink, ListSource};
 use entity_map::OutOfMemory;
 use init_plan::RuntimeBytes;
+use plan_excess::{Excess, locate_excess};
 use refusal_place::{Place, locate};
 use rule_breaks::{BrokenRule, locate_broken_rule};
 use std::alloc::{AllocError, Global};
-use translate::{Report, run};
+use translate::{Report, read_words, run};
 
 /// Where and why bytes are refused.
 #[derive(Clone, Copy)]
@@ -16,6 +17,8 @@ pub enum Refusal {
     Unread(Place),
     /// They break a rule.
     Broken(BrokenRule),
+    /// They are too large to be planned.
+    Large(Excess),
 }
 
 /// What a run gave.
@@ -55,9 +58,32 @@ fn refusal_of(alloc: Global, case: &Case, bytes: &[u8]) -> Result<Option<Refusal
     if case.expected.at.is_none() {
         return Ok(None);
     }
-    match locate(alloc, bytes)? {
-        Some(place) => Ok(Some(Refusal::Unread(place))),
-        None => Ok(locate_broken_rule(alloc, bytes)?.map(Refusal::Broken)),
+    if let Some(place) = locate(alloc, bytes)? {
+        return Ok(Some(Refusal::Unread(place)));
+    }
+    match locate_broken_rule(alloc, bytes)? {
+        Some(broken) => Ok(Some(Refusal::Broken(broken))),
+        None => Ok(excess_of(alloc, case.given.words.as_slice(), bytes)?.map(Refusal::Large)),
+    }
+}
+
+/// What makes the bytes too large to be planned with these words, where something does.
+fn excess_of(
+    alloc: Global,
+    words: &[String],
+    bytes: &[u8],
+) -> Result<Option<Excess>, OutOfMemory> {
+    match read_words(words) {
+        Some(command) => locate_excess(
+            alloc,
+            &command.tunables,
+            command.collector,
+            command.ptr,
+            command.page_size,
+            command.max_image,
+            bytes,
+        ),
+        None => Ok(None),
     }
 }
 

@@ -23,6 +23,7 @@ fn tell_difference(rt: &HostRuntime, difference: Difference<'_>) -> io::Result<(
             "the place is byte {}: {}, entry {}",
             broken.byte, broken.section, broken.section_entry
         ),
+        Difference::Place(Some(Refusal::Large(excess))) => println!(rt; "it is too large: {excess}"),
         Difference::Place(None) => println!(rt; "there is no place"),
     }
 }

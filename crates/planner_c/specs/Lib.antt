@@ -1,4 +1,5 @@
 pub mod Calls
+pub mod Excess
 pub mod Links
 pub mod Places
 pub mod Refusals

@@ -1,5 +1,5 @@
 //! The planner for C: calls that fill records with a plan, its text, both, the links of two modules,
-//! or the place at which a module is refused.
+//! or why a module is refused and where.
 //!
 //! Each call returns 0, 1, 2 or 5, and each status has its cause. A record is filled as by
 //! `plan_tables`, and a text is that of the program.
@@ -18,6 +18,7 @@
 //! `embed/README.md` its manual.
 #![tactic(auto)]
 
+mod excess;
 mod linking;
 mod links;
 mod options;
@@ -29,6 +30,7 @@ mod sections;
 mod text;
 mod version;
 
+pub use excess::{ExcessRecord, bobbinazure_locate_excess};
 pub use linking::bobbinazure_link;
 pub use links::{ImportAnswerRecord, LinkRecord};
 pub use options::PlanOptions;

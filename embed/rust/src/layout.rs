@@ -417,6 +417,15 @@ laid_out! {
         sentence 24,
         made 40,
     }
+    Excess: 48 {
+        kind 0,
+        index 4,
+        section 8,
+        section_entry 12,
+        byte 16,
+        sentence 24,
+        made 40,
+    }
     Section: 40 {
         id 0,
         start 4,

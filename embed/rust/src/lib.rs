@@ -50,7 +50,7 @@ pub use error::{Error, Reason};
 pub use expressions::{ConstExpr, ConstOp};
 pub use interned::{GcLayout, GcLayoutKind};
 pub use links::{Answer, LinkError, link};
-pub use places::{BrokenRule, Place, locate, locate_rule};
+pub use places::{BrokenRule, EntryPlace, Excess, Place, locate, locate_excess, locate_rule};
 pub use plan::{Plan, plan_and_text, text};
 pub use rows::{
     BranchHint, Context, Entities, Field, FuncRefLayout, FunctionImportLayout, Global, GlobalDefinitionLayout, GlobalImportLayout, LayoutField, Memory,

@@ -95,6 +95,19 @@ pub const IN_BODIES: u32 = 12;
 /// in segments
 pub const IN_SEGMENTS: u32 = 13;
 
+// What makes a module too large: the field `kind`.
+
+/// the module has 2^30 bytes or more
+pub const EXCESS_INPUT: u32 = 1;
+/// with the image of a memory, runtime data pass 4294967295 bytes
+pub const EXCESS_IMAGE: u32 = 2;
+/// an object of a type has more than 4294967295 bytes
+pub const EXCESS_OBJECT: u32 = 3;
+/// an exception of a tag has
+pub const EXCESS_EXCEPTION: u32 = 4;
+/// the context of an instance has
+pub const EXCESS_CONTEXT: u32 = 5;
+
 // How the offset of a segment is given: the field `kind`.
 
 /// offset: the offset itself, which the planner computed

@@ -1,12 +1,13 @@
 //! Where and why a module is refused.
 
 use crate::error::Error;
-use crate::rows::{BrokenRule as BrokenRuleRecord, Place as PlaceRecord};
+use crate::rows::{BrokenRule as BrokenRuleRecord, Excess as ExcessRecord, Options, Place as PlaceRecord};
 use std::fmt;
 
 unsafe extern "C" {
     fn bobbinazure_locate(bytes: *const u8, len: usize, place: *mut PlaceRecord) -> u32;
     fn bobbinazure_locate_rule(bytes: *const u8, len: usize, broken: *mut BrokenRuleRecord) -> u32;
+    fn bobbinazure_locate_excess(bytes: *const u8, len: usize, options: *const Options, excess: *mut ExcessRecord) -> u32;
 }
 
 impl Drop for PlaceRecord {
@@ -19,6 +20,15 @@ impl Drop for PlaceRecord {
 }
 
 impl Drop for BrokenRuleRecord {
+    fn drop(&mut self) {
+        if self.made != 0 {
+            // SAFETY: the sentence is in memory of its own, and is this record's alone.
+            unsafe { self.sentence.free() };
+        }
+    }
+}
+
+impl Drop for ExcessRecord {
     fn drop(&mut self) {
         if self.made != 0 {
             // SAFETY: the sentence is in memory of its own, and is this record's alone.
@@ -147,6 +157,84 @@ fn broken_rule(record: &BrokenRuleRecord) -> BrokenRule {
         section: record.section,
         section_entry: record.section_entry,
         byte: record.byte,
+        sentence: String::from_utf8_lossy(record.sentence.as_slice()).into_owned(),
+    }
+}
+
+/// What makes a module too large to be planned, and where it is. It displays the offset, if there is one, and a sentence.
+#[derive(Clone, Debug, PartialEq, Eq, Hash)]
+pub struct Excess {
+    /// What it is, from [`numbers::EXCESS_INPUT`](crate::numbers::EXCESS_INPUT) on.
+    pub kind: u32,
+    /// The index of the memory, the type or the tag; `None` of the input and the context.
+    pub index: Option<u32>,
+    /// Which entry of which section has it; `None` of the input and the context.
+    pub place: Option<EntryPlace>,
+    /// What is too large, for people.
+    pub sentence: String,
+}
+
+/// An entry of a section.
+#[derive(Clone, Copy, Debug, PartialEq, Eq, Hash)]
+pub struct EntryPlace {
+    /// The id of the section: of an import, the import section.
+    pub section: u32,
+    /// Its index in the section, from 0 on: of a type, its group.
+    pub entry: u32,
+    /// The offset at which it begins.
+    pub byte: u32,
+}
+
+impl fmt::Display for Excess {
+    fn fmt(&self, f: &mut fmt::Formatter<'_>) -> fmt::Result {
+        if let Some(place) = self.place {
+            write!(f, "byte {}, ", place.byte)?;
+        }
+        f.write_str(&self.sentence)
+    }
+}
+
+/// Says what makes a module too large to be planned with the options, and where; `None` where it is not too large. For
+/// modules that were refused as too large, or for an offset that overflows. It plans the module again.
+///
+/// # Errors
+/// Wrong options; no memory.
+///
+/// ```
+/// use bobbinazure::{Options, locate_excess, numbers};
+/// // two memories of 4 GiB, each with a byte at its begin and at its end
+/// let mut module = b"\0asm\x01\0\0\0\x05\x09\x02\x00\x80\x80\x04\x00\x80\x80\x04\x0b\x23\x04".to_vec();
+/// for memory in 0..2 {
+///     module.extend([2, memory, 0x41, 0x00, 0x0b, 1, 1]); // at 0
+///     module.extend([2, memory, 0x41, 0x7f, 0x0b, 1, 1]); // at 4294967295
+/// }
+/// module[20] = 29;
+/// let options = Options { cow: true, max_image: 1 << 40, ..Options::default() };
+/// let excess = locate_excess(&module, &options)?.expect("it is too large");
+/// assert_eq!((excess.kind, excess.index), (numbers::EXCESS_IMAGE, Some(0)));
+/// # Ok::<(), bobbinazure::Error>(())
+/// ```
+pub fn locate_excess(bytes: &[u8], options: &Options) -> Result<Option<Excess>, Error> {
+    let mut record = ExcessRecord::default();
+    // SAFETY: the pointers are those of borrowed values, and the record is one.
+    match unsafe { bobbinazure_locate_excess(bytes.as_ptr(), bytes.len(), options, &mut record) } {
+        0 => Ok(None),
+        1 => Ok(Some(excess(&record))),
+        2 => Err(Error::WrongOptions),
+        _ => Err(Error::OutOfMemory),
+    }
+}
+
+fn excess(record: &ExcessRecord) -> Excess {
+    let place = EntryPlace {
+        section: record.section,
+        entry: record.section_entry,
+        byte: record.byte,
+    };
+    Excess {
+        kind: record.kind,
+        index: (record.index != u32::MAX).then_some(record.index),
+        place: (record.section != u32::MAX).then_some(place),
         sentence: String::from_utf8_lossy(record.sentence.as_slice()).into_owned(),
     }
 }

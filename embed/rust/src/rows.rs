@@ -736,6 +736,27 @@ pub struct BrokenRule {
     pub made: u32,
 }
 
+/// What makes a module too large to be planned, and where it is.
+#[repr(C)]
+#[derive(Default)]
+pub struct Excess {
+    /// What it is: a number from [`numbers::EXCESS_INPUT`](crate::numbers::EXCESS_INPUT) on.
+    pub kind: u32,
+    /// The index of the memory, the type or the tag; `u32::MAX` of the input and the context.
+    pub index: u32,
+    /// The id of the section that has it: of an import, the import section; `u32::MAX` of the input and
+    /// the context.
+    pub section: u32,
+    /// The entry of that section, from 0 on: of a type, its group. 0 of the input and the context.
+    pub section_entry: u32,
+    /// The offset at which the section's entry begins; 0 of the input and the context.
+    pub byte: u32,
+    /// A sentence for people, in UTF-8, without a zero at the end.
+    pub(crate) sentence: List<u8>,
+    /// Whether the sentence is in memory of its own, which `bobbinazure_excess_free` frees.
+    pub made: u32,
+}
+
 /// A section of a module. Offsets count the bytes of the module, from 0 on.
 #[repr(C)]
 #[derive(Default)]
