@@ -202,16 +202,14 @@ impl fmt::Display for Excess {
 ///
 /// ```
 /// use bobbinazure::{Options, locate_excess, numbers};
-/// // two memories of 4 GiB, each with a byte at its begin and at its end
-/// let mut module = b"\0asm\x01\0\0\0\x05\x09\x02\x00\x80\x80\x04\x00\x80\x80\x04\x0b\x23\x04".to_vec();
-/// for memory in 0..2 {
-///     module.extend([2, memory, 0x41, 0x00, 0x0b, 1, 1]); // at 0
-///     module.extend([2, memory, 0x41, 0x7f, 0x0b, 1, 1]); // at 4294967295
-/// }
-/// module[20] = 29;
-/// let options = Options { cow: true, max_image: 1 << 40, ..Options::default() };
-/// let excess = locate_excess(&module, &options)?.expect("it is too large");
+/// // a memory of 65537 pages, with a byte at 0 and one at 4294967296
+/// let module = b"\0asm\x01\0\0\0\x05\x05\x01\x04\x81\x80\x04\
+///     \x0b\x11\x02\0\x42\0\x0b\x01\x01\0\x42\x80\x80\x80\x80\x10\x0b\x01\x01";
+/// let options = Options { cow: true, max_image: 1 << 33, ..Options::default() };
+/// let excess = locate_excess(module, &options)?.expect("its image is too large");
 /// assert_eq!((excess.kind, excess.index), (numbers::EXCESS_IMAGE, Some(0)));
+/// let place = excess.place.expect("it is that of a memory");
+/// assert_eq!((place.section, place.entry, place.byte), (5, 0, 11));
 /// # Ok::<(), bobbinazure::Error>(())
 /// ```
 pub fn locate_excess(bytes: &[u8], options: &Options) -> Result<Option<Excess>, Error> {
