@@ -1,13 +1,13 @@
 -- What a record reports of what makes a module too large.
 use Rattle.std.specs.Prelude.{◌≡◌, ℕ, List, Option, Some, None}
-use Rattle.rule_breaks.specs.declared.refused.EntryPlace.{EntryPlace}
+use Rattle.rule_breaks.specs.declared.list_places.EntryPlace.{EntryPlace}
 use Rattle.refusal_place.specs.Kinds.{id_of}
 use Rattle.plan.specs.declared.error.TranslateError.TheVariants as refusal
 use Rattle.translate.specs.Options.{Options}
 use Rattle.translate.specs.Planned.{HasCause}
-use Rattle.plan_excess.specs.declared.excess.Excess.{Excess}
-use Rattle.plan_excess.specs.declared.excess.ExcessKind.{ExcessKind}
-use Rattle.plan_excess.specs.declared.excess.ExcessKind.TheVariants as excess
+use Rattle.plan_excess.specs.declared.kinds.Excess.{Excess}
+use Rattle.plan_excess.specs.declared.kinds.ExcessKind.{ExcessKind}
+use Rattle.plan_excess.specs.declared.kinds.ExcessKind.TheVariants as excess
 use Rattle.plan_excess.specs.Excess.{IsExcess}
 use Rattle.plan_excess.specs.ExcessTexts.{excess_text}
 use Rattle.planner_c.specs.declared.excess.ExcessRecord.{ExcessRecord}
