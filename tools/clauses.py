@@ -1,4 +1,5 @@
-"""Writes docs/CLAUSES.md: each public function with named clauses, by crate, what it promises and the names of its clauses."""
+"""Writes docs/CLAUSES.md: each public function with named clauses, by crate, what it promises and
+the names of its clauses."""
 
 import re
 
@@ -20,14 +21,16 @@ A law is a function with an empty body, whose clauses are the theorem. Every fun
 
 
 class Function:
-    """A function of a crate: the type in whose block it is, its name, the names of its clauses, its comment's first sentence."""
+    """A function of a crate: the type in whose block it is, its name, the names of its clauses, its
+    comment's first sentence."""
 
     def __init__(self, of, name, is_public, clauses, says):
         self.of, self.name, self.is_public, self.clauses, self.says = of, name, is_public, clauses, says
 
 
 def functions_of(top, crate):
-    """The functions of a crate. Public are those of which lib.rt names the function, or the type in whose block it is."""
+    """The functions of a crate. Public are those of which lib.rt names the function, or the type in
+    whose block it is."""
     exported = exported_names(top / "crates" / crate / "src" / "lib.rt")
     for path in sorted((top / "crates" / crate / "src").glob("**/*.rt")):
         lines, block = path.read_text().split("\n"), ""
@@ -88,7 +91,8 @@ def listed(words):
 
 
 class Section:
-    """The rows of some crates: those of the file, and one for each other public function whose clauses have names."""
+    """The rows of some crates: those of the file, and one for each other public function whose
+    clauses have names."""
 
     def __init__(self, top, crates, rows):
         self.functions = [one for crate in crates for one in functions_of(top, crate)]

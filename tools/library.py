@@ -1,4 +1,5 @@
-"""The static library of the C interface, proved and built over the libraries that `rt ci` (or `rt lib` in each crate) left in crates/*/out/rlib."""
+"""The static library of the C interface, proved and built over the libraries that `rt ci` (or `rt
+lib` in each crate) left in crates/*/out/rlib."""
 
 import subprocess
 from pathlib import Path
@@ -33,7 +34,8 @@ def run(*words, **how):
 
 
 def crates_below():
-    """The crates of the repository that the static library stands on, lowest first, those that it names, and the kit's libraries that it names."""
+    """The crates of the repository that the static library stands on, lowest first, those that it
+    names, and the kit's libraries that it names."""
     named = {}
     for line in (ROOT / "crates.txt").read_text().splitlines():
         name, colon, words = line.partition("#")[0].partition(":")
@@ -58,7 +60,8 @@ def rlib(name):
 
 
 def build_words(toolchain, archive):
-    """The command that proves the static library over the statements of the libraries below it, and builds it for x86-64."""
+    """The command that proves the static library over the statements of the libraries below it, and
+    builds it for x86-64."""
     below, named, of_kit = crates_below()
     lacking = [name for name in below if not rlib(name).exists()]
     if lacking:
@@ -76,7 +79,8 @@ def build_words(toolchain, archive):
 
 
 def keeping(folder, kept, *options):
-    """A copy of the kit's toolchain whose clang also keeps LLVM's module that it is handed, and takes these options last."""
+    """A copy of the kit's toolchain whose clang also keeps LLVM's module that it is handed, and
+    takes these options last."""
     tools = folder / "toolchain"
     (tools / "bin").mkdir(parents=True)
     (tools / "lib").symlink_to(kit() / "toolchain" / "lib")
@@ -101,7 +105,8 @@ def prove(archive, folder, kept=None, *options):
 
 
 def add_heap(archive, folder):
-    """Adds the three functions of the kit's heap, so that a C linker needs this one file. The kit's archiver writes neither names of users nor times."""
+    """Adds the three functions of the kit's heap, so that a C linker needs this one file. The kit's
+    archiver writes neither names of users nor times."""
     archiver = kit() / "toolchain" / "bin" / "llvm-ar"
     run(archiver, "x", kit() / "c" / "liblibc_c.a", cwd=folder)
     heap = sorted(folder.glob("heap*.o"))

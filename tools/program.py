@@ -1,4 +1,5 @@
-"""The program that the tools beside this file run: proved and built, or compiled without proofs, which is kept until the sources change."""
+"""The program that the tools beside this file run: proved and built, or compiled without proofs,
+which is kept until the sources change."""
 
 import contextlib
 import hashlib
@@ -36,7 +37,8 @@ def add_option(parser):
 
 
 def start():
-    """Prepares a tool: no caches of Python, and a signal ends it as an error does, so that folders are removed."""
+    """Prepares a tool: no caches of Python, and a signal ends it as an error does, so that folders
+    are removed."""
     for number in (signal.SIGINT, signal.SIGTERM, signal.SIGHUP):
         signal.signal(number, lambda number, _: sys.exit(128 + number))
 
@@ -81,7 +83,8 @@ def install(made, to, digest):
 
 
 def find(given=None):
-    """The program to run: the given one, else one that is built from these sources, else one that is compiled without proofs and kept."""
+    """The program to run: the given one, else one that is built from these sources, else one that
+    is compiled without proofs and kept."""
     if given:
         if not os.access(given, os.X_OK):
             raise NoProgram(f"{given} cannot be run")
@@ -129,7 +132,8 @@ def link(made):
 
 
 def take_code(crate, room, to):
-    """Takes the code of the whole program from a run of `rt try`, which hands it to its compiler as a file, and ends that run."""
+    """Takes the code of the whole program from a run of `rt try`, which hands it to its compiler as
+    a file, and ends that run."""
     folder = room / "try"
     folder.mkdir(exist_ok=True)
     how = {"cwd": crate, "env": {**os.environ, "TMPDIR": str(folder)}, "stdin": subprocess.DEVNULL, "stdout": subprocess.DEVNULL}

@@ -1,4 +1,5 @@
-"""Writes docs/THEOREM.md from the sources: the sentence, the contract of `run`, and the definitions that say what it means."""
+"""Writes docs/THEOREM.md from the sources: the sentence, the contract of `run`, and the definitions
+that say what it means."""
 
 import closure
 

@@ -1,4 +1,5 @@
-"""What `./translate` does beyond starting a program: it compiles and proves the program, plans several modules, and cleans up."""
+"""What `./translate` does beyond starting a program: it compiles and proves the program, plans
+several modules, and cleans up."""
 
 import contextlib
 import os
@@ -46,7 +47,8 @@ def fail(message):
 
 
 def hint(source):
-    """What is wrong with a file that is certainly no core module, by its first bytes; else nothing. Leaves the file at its begin."""
+    """What is wrong with a file that is certainly no core module, by its first bytes; else nothing.
+    Leaves the file at its begin."""
     first = source.read(len(HEADER))
     source.seek(0)
     if first == HEADER:
@@ -118,7 +120,8 @@ class Progress:
             print(f"{name} {'was proved before' if is_kept else 'is proved'}: {self.line()}", file=sys.stderr, flush=True)
 
     def seconds_left(self):
-        """The work that is left shared by all processors, or the longest chain of crates that is left, at the speed so far."""
+        """The work that is left shared by all processors, or the longest chain of crates that is
+        left, at the speed so far."""
         lines = sum(self.lines[name] for name in self.took)
         pace = (1000 * SECONDS_A_LINE + sum(self.took.values())) / (1000 + lines)
         now, left, chains = time.monotonic(), {}, {}
@@ -221,7 +224,8 @@ def kept_by_kit():
 
 
 def prove(top=TOOL):
-    """Proves the crates that the program depends on and builds it, from a copy, so that other commands need not wait."""
+    """Proves the crates that the program depends on and builds it, from a copy, so that other
+    commands need not wait."""
     if not shutil.which("rt"):
         fail("the command rt of the Rattle kit is not on the PATH")
     say_what_is_short()
@@ -255,7 +259,8 @@ def prove_once():
 
 
 def proofs_kept_by_kit():
-    """The folders in which the kit keeps the proofs of this repository's crates, of whatever folder and state of it."""
+    """The folders in which the kit keeps the proofs of this repository's crates, of whatever folder
+    and state of it."""
     names = {name.strip() for name, colon, _ in (line.partition(":") for line in (HERE / "crates.txt").read_text().splitlines()) if colon}
     names = {name.split()[0] for name in names if not name.startswith("#")}
     found = [(re.fullmatch(r"(?:proof|tests)-(\w+)-[0-9a-f]{64}", folder.name), folder) for folder in kept_by_kit().glob("*-*")]
@@ -267,7 +272,8 @@ def bytes_below(folders):
 
 
 def clean(takes_all):
-    """Removes what was made here; with all, also the proofs that the kit keeps, whose size is said otherwise."""
+    """Removes what was made here; with all, also the proofs that the kit keeps, whose size is said
+    otherwise."""
     for folder in sorted((HERE / "crates").glob("*/out")):
         shutil.rmtree(folder, ignore_errors=True)
     say("removed what was made in crates/*/out")

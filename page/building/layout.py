@@ -1,7 +1,8 @@
 """Where the fields of the C interface's records stand, as the header declares them for 64-bit memories.
 
-The header is read for the names of its records, fields and numbers; where each field stands and how long it is, the kit's clang says. So a field
-that the header gains is known to the page with the next build, and none is written down twice.
+The header is read for the names of its records, fields and numbers; where each field stands and how
+long it is, the kit's clang says. So a field that the header gains is known to the page with the
+next build, and none is written down twice.
 """
 
 import re

@@ -1,9 +1,10 @@
 """The planner as a WebAssembly module of its own, for 64-bit memories.
 
-The kit does not build a crate that allocates for WebAssembly. So the static library is built for x86-64, which proves it: `rattle build` proves
-the crate over the libraries below it and hands LLVM's module of it to the clang of its toolchain folder. That folder is a copy here, whose clang
-also keeps the module. The two targets have pointers of one size and one order of bytes, so the module is compiled for wasm64 in its place, by the
-kit's own clang, with the heap beside it.
+The kit does not build a crate that allocates for WebAssembly. So the static library is built for
+x86-64, which proves it: `rattle build` proves the crate over the libraries below it and hands
+LLVM's module of it to the clang of its toolchain folder. That folder is a copy here, whose clang
+also keeps the module. The two targets have pointers of one size and one order of bytes, so the
+module is compiled for wasm64 in its place, by the kit's own clang, with the heap beside it.
 """
 
 import re
@@ -25,7 +26,8 @@ C = [*TARGET, "-ffreestanding", "-nostdinc", "-I", HERE / "module" / "include"]
 
 
 def prove(folder):
-    """Proves and builds the static library, and returns the file of LLVM's module that this handed to its compiler."""
+    """Proves and builds the static library, and returns the file of LLVM's module that this handed
+    to its compiler."""
     kept = folder / "kept.bc"
     # What is built for x86-64 is not used, so it need not be quick.
     library.prove(folder / "x86.a", folder, kept, "-O0")
@@ -51,7 +53,8 @@ def for_wasm(text):
 
 
 def link(code, header, folder):
-    """The bytes of the WebAssembly module of this code, with the heap and the inline functions of the header."""
+    """The bytes of the WebAssembly module of this code, with the heap and the inline functions of
+    the header."""
     tools = kit() / "toolchain"
     clang = tools / "bin" / "clang"
     run(clang, "-S", "-emit-llvm", "--target=x86_64-unknown-linux-gnu", "-x", "ir", code, "-o", "x86.ll", cwd=folder)

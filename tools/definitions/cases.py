@@ -1,4 +1,5 @@
-"""The cases of `plan_cases`: what the definitions say of the bytes of each, against what is wanted there (crates/plan_cases/README.md)."""
+"""The cases of `plan_cases`: what the definitions say of the bytes of each, against what is wanted
+there (crates/plan_cases/README.md)."""
 
 import re
 
@@ -120,7 +121,8 @@ def wanted_lines(case):
 
 
 def check_verdicts(definitions, top, outcome):
-    """Each input of each case: malformed, unsupported, the first broken rule, or taken. Sizes are no part of it: then it is taken."""
+    """Each input of each case: malformed, unsupported, the first broken rule, or taken. Sizes are
+    no part of it: then it is taken."""
     for case in read_cases(top):
         if not case.is_plan_of_bytes():
             outcome.leave_out("cases of words, of devices or of many bytes")

@@ -1,4 +1,5 @@
-"""The definitions that a contract rests on: names are followed from its clauses through the `use` lines of specs/."""
+"""The definitions that a contract rests on: names are followed from its clauses through the `use`
+lines of specs/."""
 
 import re
 
@@ -47,7 +48,8 @@ class Contract:
 
 
 def is_end(lines, number):
-    """Whether a contract ends before a line: at the body, which begins on a line of its own, or in the line of the head."""
+    """Whether a contract ends before a line: at the body, which begins on a line of its own, or in
+    the line of the head."""
     text = lines[number].strip()
     if text in ("{", "{}"):
         return True
@@ -98,7 +100,8 @@ def cited(file, text, bound=frozenset()):
 
 
 class Closure:
-    """What is reached: definitions in the order of reading, each behind those that it cites; the Rust types; the words of the kit."""
+    """What is reached: definitions in the order of reading, each behind those that it cites; the
+    Rust types; the words of the kit."""
 
     def __init__(self, all_sources, roots, passed_over=frozenset()):
         self.sources, self.passed_over = all_sources, passed_over

@@ -25,7 +25,8 @@ class Definitions:
         return sorted(map(Made, names), key=number_of)
 
     def read(self, data):
-        """The module that bytes spell, and the refusal of bytes that are refused, by their grammar or by the first broken rule."""
+        """The module that bytes spell, and the refusal of bytes that are refused, by their grammar
+        or by the first broken rule."""
         try:
             module = parts.read_module(self.evaluator, data)
         except parts.NotSpelled:

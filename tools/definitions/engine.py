@@ -72,7 +72,8 @@ class Engine:
         return spelling.OLDER if self.has["older types"] else None
 
     def ask(self, questions, newer=False):
-        """The answers to questions, in order; with node's switches for newer types where they are asked for."""
+        """The answers to questions, in order; with node's switches for newer types where they are
+        asked for."""
         if not self.is_node:
             return self.ask_in_a_page(questions)
         words = [self.program, *(self.switches if newer else self.plain), str(HERE / "engine.mjs")]

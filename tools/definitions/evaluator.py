@@ -1,8 +1,9 @@
 """Evaluates definitions: their text is read, made into functions of Python, and run.
 
-A number is an int, a Bool a bool, a list a list, a tuple a tuple, a text a str. A statement is True or False: an equation compares
-values, a record of statements holds where each of its fields holds. What speaks of all values of a type, or of some value, is not
-evaluated: it raises `NotEvaluated`, and a few such definitions have a function of Python in their place (words.py, parts.py).
+A number is an int, a Bool a bool, a list a list, a tuple a tuple, a text a str. A statement is True
+or False: an equation compares values, a record of statements holds where each of its fields holds.
+What speaks of all values of a type, or of some value, is not evaluated: it raises `NotEvaluated`,
+and a few such definitions have a function of Python in their place (words.py, parts.py).
 """
 
 import sources
@@ -82,8 +83,9 @@ OPERATIONS = {
 class Evaluator:
     """The definitions of a repository, each evaluated when it is first asked for.
 
-    `words` has the words of std by their names, `natives` what stands in place of a definition, by crate and name, and `witnesses` what
-    stands in for a definition only where its text asks for a witness."""
+    `words` has the words of std by their names, `natives` what stands in place of a definition, by
+    crate and name, and `witnesses` what stands in for a definition only where its text asks for a
+    witness."""
 
     def __init__(self, all_sources, words, natives, witnesses):
         self.sources, self.words, self.natives, self.witnesses = all_sources, words, natives, witnesses
@@ -267,7 +269,8 @@ class Evaluator:
         return read
 
     def look_up(self, name, owner):
-        """A value, the parameters of blocks that it shares with the owner, and the fields that are read of it."""
+        """A value, the parameters of blocks that it shares with the owner, and the fields that are
+        read of it."""
         head, *rest = name.split(".")
         file = owner.file
         brought = file.imports.get(head)

@@ -23,7 +23,8 @@ def shown(item):
 
 
 def places_of(phase, place, size, random):
-    """The places that are compared: those of short pieces and around the ends of all, the ends of the object, and some by chance."""
+    """The places that are compared: those of short pieces and around the ends of all, the ends of
+    the object, and some by chance."""
     near = set(range(min(size, 20))) | set(range(max(0, size - 12), size)) | {random.randrange(size) for _ in range(20 if size else 0)}
     for piece in phase["pieces"]:
         first, length = piece["offset"], len(piece["items"])
@@ -93,7 +94,8 @@ def check_modules(definitions, engine, count, seed, outcome):
 
 
 def check_types(definitions, engine, count, seed, outcome):
-    """Pairs of types of two modules: equal exactly where a mutable global of the one links as one of the other."""
+    """Pairs of types of two modules: equal exactly where a mutable global of the one links as one
+    of the other."""
     types, random = engine.types(), chances.Random(seed)
     if types is None:
         outcome.leave_out("all, since the engine has no references to types")
@@ -134,7 +136,8 @@ def check_imports(definitions, engine, count, seed, outcome):
 
 
 def compare_takers(definitions, engine, modules, outcome):
-    """Modules of which none may be refused by the definitions and taken by the engine; why the engine refuses what they take is told."""
+    """Modules of which none may be refused by the definitions and taken by the engine; why the
+    engine refuses what they take is told."""
     answers = engine.ask([{"take": data.hex()} for _, data in modules])
     for (label, data), found in zip(modules, answers):
         try:

@@ -1,4 +1,5 @@
-"""Writes docs/DEFINITIONS.md from the sources: each definition that the contract of `run` depends on, in the order of reading."""
+"""Writes docs/DEFINITIONS.md from the sources: each definition that the contract of `run` depends
+on, in the order of reading."""
 
 import re
 
@@ -70,7 +71,8 @@ WORDS = [
 
 
 def words_of(all_sources, reached, numbers):
-    """The list of words, with the numbers of their files. A word whose definition is gone, or is no longer reached, stops it."""
+    """The list of words, with the numbers of their files. A word whose definition is gone, or is no
+    longer reached, stops it."""
     for word, crate, name, says in WORDS:
         definition = all_sources.find(crate, name)
         if (definition.file.module, definition.name) not in reached.definitions:
@@ -128,7 +130,8 @@ def subject_of(file):
 
 
 def file_lines(top, number, file, definitions):
-    """What the page has of a file: its subject, a row for each definition with a comment, and the others by name."""
+    """What the page has of a file: its subject, a row for each definition with a comment, and the
+    others by name."""
     subject, section = subject_of(file)
     yield from ["", f"### {title_of(top, number, file)}", ""]
     yield from wrapped(f"{subject}{f' ({section})' if section else ''}.", WIDE)
@@ -151,7 +154,8 @@ def anchor_of(title):
 
 
 def index_of(files):
-    """All names in alphabetical order, those of a letter in a paragraph, each with the numbers of its files."""
+    """All names in alphabetical order, those of a letter in a paragraph, each with the numbers of
+    its files."""
     found = {}
     for number, definitions in enumerate(files.values(), 1):
         for name in sorted({one.name for one in definitions}):

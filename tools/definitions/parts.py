@@ -1,8 +1,10 @@
-"""What is not evaluated as text: the joints of the grammar, which are relations between bytes and values, and typing's two relations.
+"""What is not evaluated as text: the joints of the grammar, which are relations between bytes and
+values, and typing's two relations.
 
-A part of the grammar is here what reads it: from a place of the input, up to an end. It answers a value and the place behind it,
-raises `NotSpelled` where nothing is spelled, and `Stopped` where reading stops. That at most one value is spelled is a law that is
-proved (`spelling_is_unique`), so reading finds all that the relation holds of. The rows of the grammar are evaluated as they stand.
+A part of the grammar is here what reads it: from a place of the input, up to an end. It answers a
+value and the place behind it, raises `NotSpelled` where nothing is spelled, and `Stopped` where
+reading stops. That at most one value is spelled is a law that is proved (`spelling_is_unique`), so
+reading finds all that the relation holds of. The rows of the grammar are evaluated as they stand.
 """
 
 from evaluator import Function, Made
@@ -46,7 +48,8 @@ def stops_at(what):
 
 
 def seven_bits_a_byte(data, at, end, bits):
-    """A sum of seven bits a byte, the last byte alone below 128, in at most so many bytes; and whether its highest bit is set."""
+    """A sum of seven bits a byte, the last byte alone below 128, in at most so many bytes; and
+    whether its highest bit is set."""
     total, shift = 0, 0
     while True:
         if shift >= bits or at >= end:
@@ -203,7 +206,8 @@ def read_module(evaluator, data):
 
 
 def has_class(evaluator, lists, visible, expression, wanted):
-    """`HasClass`, whose text asks for the stacks between the operators: they are those that the signatures lead to."""
+    """`HasClass`, whose text asks for the stacks between the operators: they are those that the
+    signatures lead to."""
     signature, stack = evaluator.find("rule_spec", "signature"), []
     for operator in expression:
         try:

@@ -1,4 +1,5 @@
-"""Random entities that one module gives and another wants: functions, tables, memories and globals whose types are near each other."""
+"""Random entities that one module gives and another wants: functions, tables, memories and globals
+whose types are near each other."""
 
 from evaluator import NONE, Fields, Made, some
 from spelling import HEADER, NUMBERS, name, section, unsigned, vector

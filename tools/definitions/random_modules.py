@@ -1,4 +1,5 @@
-"""Random modules with much in their initialisers: segments that overlap, are empty, end at the end or past it, by constants, globals and sums."""
+"""Random modules with much in their initialisers: segments that overlap, are empty, end at the end
+or past it, by constants, globals and sums."""
 
 from spelling import HEADER, name, section, signed, unsigned, vector
 
@@ -133,7 +134,8 @@ class RandomModule:
 
 
 def mutated(random, data, kept):
-    """One or two small changes behind the header; `kept` is a place behind which some bytes stay, those of bodies."""
+    """One or two small changes behind the header; `kept` is a place behind which some bytes stay,
+    those of bodies."""
     changed = bytearray(data)
     for _ in range(random.choice([1, 1, 1, 2])):
         place = random.randrange(8, len(changed))

@@ -1,4 +1,5 @@
-"""Random groups of types, few and near each other, so that equal ones come often; and modules that give and want globals of them."""
+"""Random groups of types, few and near each other, so that equal ones come often; and modules that
+give and want globals of them."""
 
 import random as chances
 
@@ -8,8 +9,9 @@ ABSTRACT = ["eq", "any", "extern", "func", "array", "struct", "i31", "none", "no
 
 
 class GroupMaker:
-    """Makes a group of so many types behind so many others. Of one seed it makes one group, but for the places of what it names: outside of the
-    group they hang on what stands before it, and inside all of them are turned by a number of places."""
+    """Makes a group of so many types behind so many others. Of one seed it makes one group, but for
+    the places of what it names: outside of the group they hang on what stands before it, and inside
+    all of them are turned by a number of places."""
 
     def __init__(self, seed, size, before, turned):
         self.random, self.size, self.before, self.turned = chances.Random(seed), size, before, turned

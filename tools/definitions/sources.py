@@ -15,7 +15,8 @@ PARAMETERS = re.compile(r"\(([^():]*):")
 
 
 class Import:
-    """What a `use` line brings under a name: an item of a module, or a module itself (then `item` is None)."""
+    """What a `use` line brings under a name: an item of a module, or a module itself (then `item`
+    is None)."""
 
     def __init__(self, module, item=None):
         self.module, self.item = module, item
@@ -124,7 +125,8 @@ class SpecFile:
 
 
 def head_of(text, indent, heads):
-    """The name and the kind of the definition that a line begins, or None twice. A field of a record begins none."""
+    """The name and the kind of the definition that a line begins, or None twice. A field of a
+    record begins none."""
     found = TYPE_HEAD.match(text)
     if found:
         return found.group(2), found.group(1)

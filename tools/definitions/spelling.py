@@ -1,4 +1,5 @@
-"""Spells modules: numbers, lists, sections, and types by the bytes of the standard or by the older ones of an engine."""
+"""Spells modules: numbers, lists, sections, and types by the bytes of the standard or by the older
+ones of an engine."""
 
 HEADER = b"\0asm\1\0\0\0"
 NUMBERS = {"i32": 0x7F, "i64": 0x7E, "f32": 0x7D, "f64": 0x7C, "v128": 0x7B}

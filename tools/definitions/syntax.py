@@ -1,10 +1,10 @@
 """Reads the text of a definition: words, expressions and patterns.
 
-An expression is a tuple, whose first item says what it is:
-("value", v), ("name", text), ("apply", function, arguments), ("operator", sign, left, right), ("all", parts), ("not", e),
-("function", patterns, body), ("let", name, e, body), ("if", test, then, otherwise), ("list",), ("tuple", parts),
-("record", base, fields), ("field", e, name), ("quantified", text).
-A pattern likewise: ("any",), ("name", text), ("empty",), ("more", first, rest), ("tuple", parts), ("made", name, parts).
+An expression is a tuple, whose first item says what it is: ("value", v), ("name", text), ("apply",
+function, arguments), ("operator", sign, left, right), ("all", parts), ("not", e), ("function",
+patterns, body), ("let", name, e, body), ("if", test, then, otherwise), ("list",), ("tuple", parts),
+("record", base, fields), ("field", e, name), ("quantified", text). A pattern likewise: ("any",),
+("name", text), ("empty",), ("more", first, rest), ("tuple", parts), ("made", name, parts).
 """
 
 import re
@@ -24,7 +24,8 @@ STOPS = {"=", "then", "else", "in", "where", ":", "←", "|", "↦", "¬", ".", 
 
 
 class Word:
-    """A word of the text: its kind, its line and column, and whether it stands right behind the word before it."""
+    """A word of the text: its kind, its line and column, and whether it stands right behind the
+    word before it."""
 
     __slots__ = ("kind", "text", "joined", "line", "column")
 
@@ -213,7 +214,8 @@ class Reader:
         return made
 
     def bracketed(self):
-        """What follows a bracket: a statement on all or some values, which is not evaluated; or expressions."""
+        """What follows a bracket: a statement on all or some values, which is not evaluated; or
+        expressions."""
         ahead = 0
         while self.here(ahead) not in (None, ":", ",", ")") and self.words[self.at + ahead].kind == "word" and self.here(ahead) not in OPERATORS:
             ahead += 1

@@ -1,4 +1,5 @@
-"""The words of std that definitions use, as functions of Python; what each is, std says under the same name."""
+"""The words of std that definitions use, as functions of Python; what each is, std says under the
+same name."""
 
 import functools
 

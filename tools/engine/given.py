@@ -1,4 +1,5 @@
-"""Modules that are given: read so far as a replay needs it, and spelled anew with all they have exported and no start function."""
+"""Modules that are given: read so far as a replay needs it, and spelled anew with all they have
+exported and no start function."""
 
 from spelling import HEADER, name, section, unsigned, vector
 
@@ -52,7 +53,8 @@ class Reader:
         return self.limits((0, 1))
 
     def expression(self):
-        """Passes over an expression; answers the function that it names, None for null, and "other" for all else."""
+        """Passes over an expression; answers the function that it names, None for null, and "other"
+        for all else."""
         found = []
         while True:
             operator = self.byte()

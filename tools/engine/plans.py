@@ -1,4 +1,5 @@
-"""Asks the planner for plans: the program of `plan_cases`, which prints the text and the runtime data of a case that fails."""
+"""Asks the planner for plans: the program of `plan_cases`, which prints the text and the runtime
+data of a case that fails."""
 
 import re
 import subprocess

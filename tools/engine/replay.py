@@ -1,4 +1,5 @@
-"""The replay of a plan's text and runtime data: what it leaves over given imports. It uses nothing of the definitions."""
+"""The replay of a plan's text and runtime data: what it leaves over given imports. It uses nothing
+of the definitions."""
 
 import re
 
@@ -12,7 +13,8 @@ class NotRead(Exception):
 
 
 def value_of(text, values):
-    """The value of an expression of the text: a number without sign, or a function by its index, with -1 for null."""
+    """The value of an expression of the text: a number without sign, or a function by its index,
+    with -1 for null."""
     stack = []
     for operator in text.split("; "):
         name, *rest = operator.split(" ")
@@ -38,7 +40,8 @@ def value_of(text, values):
 
 
 def globals_of(plan, imported):
-    """The values of all globals: those that are written as constants, and then those that are kept as expressions. None for other kinds."""
+    """The values of all globals: those that are written as constants, and then those that are kept
+    as expressions. None for other kinds."""
     values = dict(enumerate(imported))
     for word in ("global", "global-expr"):
         for line in plan.of(word):
@@ -51,7 +54,8 @@ def globals_of(plan, imported):
 
 
 def written(objects, pieces):
-    """Writes pieces, each (object, offset, items), in order; answers whether one did not fit, at which writing ends."""
+    """Writes pieces, each (object, offset, items), in order; answers whether one did not fit, at
+    which writing ends."""
     for place, offset, items in pieces:
         if offset + len(items) > len(objects[place]):
             return True
@@ -69,7 +73,8 @@ def segments_of(plan, values):
 
 
 def memories_of(plan, values, sizes, imported):
-    """Both readings of the memories: by the list of segments; by the map of images, with the segments that are no images."""
+    """Both readings of the memories: by the list of segments; by the map of images, with the
+    segments that are no images."""
     begin = [bytearray(contents) for contents in imported] + [bytearray(size) for size in sizes[len(imported) :]]
     by_list, by_map = ([bytearray(one) for one in begin] for _ in range(2))
     segments = list(segments_of(plan, values))
@@ -82,7 +87,8 @@ def memories_of(plan, values, sizes, imported):
 
 
 def tables_of(plan, values, sizes, imported, active):
-    """The tables; `active` has the items of the module's active segments, of which the plan keeps the last ones."""
+    """The tables; `active` has the items of the module's active segments, of which the plan keeps
+    the last ones."""
     count = len(imported)
     tables = [list(cells) for cells in imported] + [[NULL] * size for size in sizes[count:]]
     for line in plan.of("table-expr"):

@@ -15,8 +15,11 @@ pub enum Difference<'a> {
     Count(&'a LineCount),
     /// The runtime data of this number differ.
     Data(u64),
-    /// The bytes are refused so, or nowhere.
-    Place(Option<Refusal>),
+    /// The bytes are refused elsewhere, or one of the two is nowhere.
+    Place {
+        wanted: Option<Spot>,
+        found: Option<Refusal>,
+    },
 }
 
 /// Whether a line is these words, or begins with them and a space.
@@ -130,12 +133,13 @@ fn wanted_spot(at: At, outcome: &Outcome) -> Option<Spot> {
 
 /// The place of the refusal, where the case says another.
 fn wrong_place<'a>(expected: &Expected, outcome: &Outcome) -> Option<Difference<'a>> {
-    match expected.at {
-        Some(at) if outcome.refusal.and_then(spot_of) != wanted_spot(at, outcome) => {
-            Some(Difference::Place(outcome.refusal))
-        }
-        _ => None,
+    let at = expected.at?;
+    let found = outcome.refusal;
+    let wanted = wanted_spot(at, outcome);
+    if found.and_then(spot_of) == wanted {
+        return None;
     }
+    Some(Difference::Place { wanted, found })
 }
 
 /// The text that was written; empty where the bytes are not text.

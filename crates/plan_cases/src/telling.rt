@@ -1,9 +1,36 @@
 //! What is printed of a case that failed.
 
-use crate::case::{Case, CaseError, words_of_error};
+use crate::case::{Case, CaseError, Spot, words_of_error};
 use crate::comparing::{Difference, text_of};
 use crate::running::{Outcome, Refusal};
 use std::io;
+
+/// Prints where the bytes must be refused.
+fn tell_wanted(rt: &HostRuntime, wanted: Option<Spot>) -> io::Result<()> {
+    let Some(spot) = wanted else {
+        return println!(rt; "wanted: no place");
+    };
+    match spot.entry {
+        Some(entry) => println!(rt; "wanted: byte {}, entry {entry}", spot.byte),
+        None => println!(rt; "wanted: byte {}, no entry", spot.byte),
+    }
+}
+
+/// Prints where and why the bytes are refused.
+fn tell_found(rt: &HostRuntime, found: Option<Refusal>) -> io::Result<()> {
+    match found {
+        Some(Refusal::Unread(place)) => println!(rt; "found: byte {}: {place}", place.byte),
+        Some(Refusal::Broken(broken)) => println!(rt;
+            "found: byte {}: {}, entry {}: {}",
+            broken.byte, broken.section, broken.section_entry, broken.fault
+        ),
+        Some(Refusal::Large(excess)) => match excess.place {
+            Some(place) => println!(rt; "found: byte {}: {excess}", place.byte),
+            None => println!(rt; "found: {excess}, at no place"),
+        },
+        None => println!(rt; "found: no place"),
+    }
+}
 
 /// Prints what differs.
 fn tell_difference(rt: &HostRuntime, difference: Difference<'_>) -> io::Result<()> {
@@ -16,15 +43,11 @@ fn tell_difference(rt: &HostRuntime, difference: Difference<'_>) -> io::Result<(
             println!(rt; "not {} lines that begin '{}'", wanted.count, wanted.words)
         }
         Difference::Data(place) => println!(rt; "runtime data {place} are others"),
-        Difference::Place(Some(Refusal::Unread(place))) => {
-            println!(rt; "the place is byte {}: {place}", place.byte)
+        Difference::Place { wanted, found } => {
+            println!(rt; "the place is another")?;
+            tell_wanted(rt, wanted)?;
+            tell_found(rt, found)
         }
-        Difference::Place(Some(Refusal::Broken(broken))) => println!(rt;
-            "the place is byte {}: {}, entry {}",
-            broken.byte, broken.section, broken.section_entry
-        ),
-        Difference::Place(Some(Refusal::Large(excess))) => println!(rt; "it is too large: {excess}"),
-        Difference::Place(None) => println!(rt; "there is no place"),
     }
 }
 
