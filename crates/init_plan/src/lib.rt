@@ -28,6 +28,7 @@ mod private_parts;
 mod runtime_data;
 mod startup;
 mod table_init;
+mod too_large;
 mod translation;
 
 pub use debug_info::{BranchHint, DebugInfoData, FunctionMetadata, NameSection, WasmFileInfo};

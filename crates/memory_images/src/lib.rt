@@ -36,6 +36,6 @@ mod zeros;
 pub use error::ImageError;
 pub use image::Image;
 pub use laws::written_ranges_law;
-pub use plan::plan_images;
+pub use plan::{plan_images, too_large_at};
 pub use settings::ImageSettings;
 pub use written::{Written, written_ranges};
