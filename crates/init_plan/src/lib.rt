@@ -13,9 +13,10 @@
 //! ```
 //!
 //! The calls may be made in either order. After an error the translation may only be dropped.
+//! Before them `too_large_at` names the memory with whose image the runtime data are too large.
 //!
-//! Read on: `translation` has the fields, `memory_startup` and `table_init` the calls; `run_laws`
-//! proves what a plan can cost.
+//! Read on: `translation` has the fields, `memory_startup`, `table_init` and `too_large` the calls;
+//! `run_laws` proves what a plan can cost.
 #![tactic(auto)]
 
 mod debug_info;
@@ -28,6 +29,7 @@ mod private_parts;
 mod runtime_data;
 mod startup;
 mod table_init;
+mod too_large;
 mod translation;
 
 pub use debug_info::{BranchHint, DebugInfoData, FunctionMetadata, NameSection, WasmFileInfo};

@@ -1,9 +1,9 @@
 -- The images of all memories, and how large they are.
-use Rattle.std.proofs.Common.{◌≡◌, ℕ, suc, ◌+◌, ◌-◌, ◌^◌, List, [], ◌∷◌, ◌++◌, length, sum_by, min, Option, None, Some, refl, sym, ◌∙◌, subst, arith}
-use Rattle.std.specs.Prelude.{slice_get}
+use Rattle.std.proofs.Common.{◌≡◌, ℕ, suc, ◌+◌, ◌-◌, ◌^◌, ◌<◌, ◌≤◌, List, [], ◌∷◌, ◌++◌, length, take, sum_by, min, Option, None, Some, refl, sym, ◌∙◌, subst, arith}
+use Rattle.std.specs.Prelude.{slice_get, IfSome, IfNone}
 use Rattle.std.specs.Global.{Vec}
 use Rattle.std.proofs.lemmas.Bool.{cases_lt}
-use Rattle.std.proofs.lemmas.List.{length_push, get_or_push, get_or_append_left}
+use Rattle.std.proofs.lemmas.List.{length_push, length-take-le, get_or_push, get_or-take, get_or_append_left}
 use Rattle.std.proofs.lemmas.List.Sums.{sum_by-cons}
 use Rattle.std.proofs.lemmas.Option.{slice_get-get_or, slice_get_within, get_or_from_slice_get}
 use Rattle.replay_spec.specs.Phases.{last_item}
@@ -14,6 +14,7 @@ use Rattle.memory_images.specs.declared.span.Span.{Span}
 use Rattle.memory_images.specs.Contents.{contents_of, contents_at, pieces_in}
 use Rattle.memory_images.specs.Image.{IsSpan, SpanOf}
 use Rattle.memory_images.specs.Images.{AreListed, span_size}
+use Rattle.memory_images.specs.Past.{PassesAt}
 
 pub listed_more : {A : Type 0} (R : ℕ → A → Type 0) (n : ℕ) (ys : List A) (y : A) → R n y → AreListed R n ys → AreListed R (n + 1) (ys ++ y ∷ [])
 listed_more R n ys y h so_far = record {
@@ -51,3 +52,35 @@ same_sums page contents n (s ∷ ss) (i ∷ is) z w = by_first s i (z.each 0 s r
       by_first None (Some i) a b more = absurd (b.is_first.nonzero (a b.first))
       by_first (Some s) None a b more = absurd (a.is_first.nonzero (b a.ends.first))
       by_first (Some s) (Some i) a b more = grind (arith, sum_by-cons span_size (Some s) ss, sum_by-cons length i.bytes (image_bytes is), size_image page (contents 0) s i a b)
+
+-- ---- the first of them
+
+listed_first : {A : Type 0} (R : ℕ → A → Type 0) (n k : ℕ) (ys : List A) → k ≤ n → AreListed R n ys → AreListed R k (take k ys)
+listed_first R n k ys le h = record {
+  count = length-take-le k ys (let c = h.count in omega (arith, c, le));
+  each = λ m answer at. h.each m answer (first_at m answer at (slice_get_within (take k ys) m answer at));
+} where
+  first_at : (m : ℕ) (answer : _) → slice_get (take k ys) m ≡ Some answer → m < length (take k ys) → slice_get ys m ≡ Some answer
+  first_at m answer at l = grind (arith, h.count, length-take-le k ys, get_or_from_slice_get (take k ys) m answer answer at, get_or-take k ys m answer, slice_get-get_or ys m answer)
+
+module _ (page : ℕ) (contents : ℕ → ℕ → ℕ) (n : ℕ) (spans : List (Option Span)) (listed : AreListed (λ m. SpanOf page (contents m)) n spans) where
+  first_sums : (images : List (Option MemoryImage)) → AreListed (λ m. ImageOf page (contents m)) n images → (k : ℕ) → k ≤ n
+      → min (sum_by span_size (take k spans)) (2 ^ 32) ≡ min (sum_by length (image_bytes (take k images))) (2 ^ 32)
+  first_sums images are k le = same_sums page contents k (take k spans) (take k images)
+      (listed_first (λ m. SpanOf page (contents m)) n k spans le listed) (listed_first (λ m. ImageOf page (contents m)) n k images le are)
+
+  -- images pass where the spans of the same contents do
+  pub pass_there : (beside : ℕ) (o : Option ℕ) → IfSome o (λ k. k < length spans) → IfSome o (λ k. beside + sum_by span_size (take k spans) < 2 ^ 32)
+      → IfSome o (λ k. 2 ^ 32 ≤ beside + sum_by span_size (take (k + 1) spans))
+      → IfSome o (λ k. (images : List (Option MemoryImage)) → AreListed (λ m. ImageOf page (contents m)) n images → PassesAt images beside k)
+  pass_there beside None l fits passes = tt
+  pass_there beside (Some k) l fits passes = λ images are. let c = listed.count in record {
+    fits = let same = first_sums images are k (omega (arith, c, l)) in omega (arith, same, fits);
+    passes = let same = first_sums images are (k + 1) (omega (arith, c, l)) in omega (arith, same, passes);
+  }
+
+  -- they fit where the spans do
+  pub fit_there : (beside : ℕ) (o : Option ℕ) → IfNone o (beside + sum_by span_size spans < 2 ^ 32)
+      → IfNone o ((images : List (Option MemoryImage)) → AreListed (λ m. ImageOf page (contents m)) n images → beside + sum_by length (image_bytes images) < 2 ^ 32)
+  fit_there beside None fits = λ images are. let same = same_sums page contents n spans images listed are in omega (arith, same, fits)
+  fit_there beside (Some k) fits = tt

@@ -6,3 +6,4 @@ pub mod Images
 pub mod Views
 pub mod Layout
 pub mod Zeros
+pub mod Past

@@ -1,11 +1,12 @@
 //! The images of all memories. They are measured before one is made.
 
-ghost use Rattle.std.specs.Prelude.{◌≡◌, ℕ, List, Option, ◌+◌, ◌-◌, ◌<◌, ◌≤◌, ◌^◌, All, IfOk, length, sum_by, min, Err};
+ghost use Rattle.std.specs.Prelude.{◌≡◌, ℕ, List, Option, ◌+◌, ◌-◌, ◌<◌, ◌≤◌, ◌^◌, All, IfOk, IfSome, IfNone, length, take, sum_by, min, Err};
 ghost use Rattle.std.specs.Option.{option_map};
 ghost use Rattle.replay_spec.specs.Images.{ImageOf, MemoryImage, image_bytes};
 ghost use Rattle.memory_images.specs.Contents.{contents_of, contents_at, end_of};
 ghost use Rattle.memory_images.specs.Image.{SpanOf};
 ghost use Rattle.memory_images.specs.Images.{AreListed, image_of, images_of as view_images, span_size};
+ghost use Rattle.memory_images.specs.Past.{PassesAt};
 
 use crate::error::ImageError;
 use crate::fill::filled;
@@ -79,6 +80,24 @@ fn total(beside: u64, spans: &[Option<Span>]) -> u64
     total
 }
 
+/// The first memory with whose span the sizes and `beside` pass 4294967295.
+fn span_past(beside: u64, spans: &[Option<Span>]) -> Option<usize>
+    requires { beside < 2 ^ 32 }
+    ensures bound { IfSome result (λ m. m < length spans.now) }
+    ensures before { IfSome result (λ m. beside + sum_by span_size (take m spans.now) < 2 ^ 32) }
+    ensures with { IfSome result (λ m. 2 ^ 32 ≤ beside + sum_by span_size (take (m + 1) spans.now)) }
+    ensures none { IfNone result (beside + sum_by span_size spans.now < 2 ^ 32) }
+{
+    let mut total = beside;
+    'sizes: for m in 0..spans.len() {
+        total = total.saturating_add(size(spans[m]));
+        if total > u64::from(u32::MAX) {
+            return Some(m);
+        }
+    }
+    None
+}
+
 fn make_all(
     alloc: Global,
     memories: &[Vec<Laid<'_>>],
@@ -119,4 +138,26 @@ pub(crate) fn images_of(
     }
     let images = make_all(alloc, memories, spans.as_slice())?;
     Ok(images)
+}
+
+/// The first memory with whose image the images and `beside` more bytes pass 4294967295 bytes
+/// together. No image is made.
+pub(crate) fn image_past(
+    alloc: Global,
+    memories: &[Vec<Laid<'_>>],
+    beside: u64,
+    page: u64,
+) -> Result<Option<usize>, OutOfMemory>
+    requires page { 0 < page }
+    requires fits { All (λ laid. All (λ x. end_of x < 2 ^ 64) laid.items) memories.now }
+    requires beside { beside < 2 ^ 32 }
+    ensures bound { IfOk result (λ o. IfSome o (λ m. m < length memories.now)) }
+    ensures past { IfOk result (λ o. IfSome o (λ m. (images : List (Option MemoryImage))
+        → AreListed (λ m. ImageOf page (contents_at memories.now m)) (length memories.now) images → PassesAt images beside m)) }
+    ensures none { IfOk result (λ o. IfNone o ((images : List (Option MemoryImage))
+        → AreListed (λ m. ImageOf page (contents_at memories.now m)) (length memories.now) images
+        → beside + sum_by length (image_bytes images) < 2 ^ 32)) }
+{
+    let spans = spans_of(alloc, memories, page)?;
+    Ok(span_past(beside, spans.as_slice()))
 }

@@ -4,12 +4,14 @@ ghost use Rattle.std.specs.Prelude.{◌≡◌, ◌⊎◌, ◌+◌, ◌^◌, ◌�
 ghost use Rattle.std.specs.Int.{IsPowerOfTwo};
 ghost use Rattle.replay_spec.specs.Images.{IsStatic, AreImages, MemoryImage, image_bytes};
 ghost use Rattle.memory_images.specs.Images.{images_of as view_images};
+ghost use Rattle.memory_images.specs.Past.{ImagesPassAt};
 ghost use Rattle.memory_images.specs.Views.{image_memory, active_segment_of, options_of};
 
 use crate::error::ImageError;
-use crate::image::{Image, images_of};
+use crate::image::{Image, image_past, images_of};
 use crate::rule::static_layout;
 use crate::settings::ImageSettings;
+use entity_map::OutOfMemory;
 use std::alloc::Global;
 use wasm_module::MemoryInitializer;
 use wasm_types::Memory;
@@ -55,5 +57,39 @@ pub fn plan_images(
             let images = images_of(alloc, all.as_slice(), beside, settings.page_size)?;
             Ok(Some(images))
         }
+    }
+}
+
+/// The first memory with whose image the images and `beside` other bytes pass 4294967295 bytes
+/// together. `None` where they do not, and where not all active segments become images. No image
+/// is made, and where images are off nothing is allocated.
+pub fn too_large_at(
+    alloc: Global,
+    settings: ImageSettings,
+    memories: &[Memory],
+    imported: usize,
+    segments: &[MemoryInitializer<'_>],
+    beside: u64,
+) -> Result<Option<usize>, OutOfMemory>
+    requires page_sizes { All (λ m. (m.page_size_log2 ≡ 0) ⊎ (m.page_size_log2 ≡ 16)) memories.now }
+    requires page_size { IsPowerOfTwo settings.page_size }
+    requires imports { imported ≤ length memories.now }
+    requires few { length memories.now < 2 ^ 32 }
+    requires beside { beside < 2 ^ 32 }
+    ensures off { settings.enabled ≡ false → result ≡ Ok None }
+    ensures bound { IfOk result (λ o. IfSome o (λ memory. memory < length memories.now)) }
+    ensures past { IfOk result (λ o. IfSome o (λ memory.
+        ImagesPassAt (options_of settings) imported (map image_memory (drop imported memories.now)) (map active_segment_of segments.now) beside memory)) }
+    ensures none { IfOk result (λ o. IfNone o ((images : List (Option MemoryImage))
+        → IsStatic (options_of settings) imported (map image_memory (drop imported memories.now)) (map active_segment_of segments.now)
+        → AreImages settings.page_size (length memories.now) (map active_segment_of segments.now) images
+        → beside + sum_by length (image_bytes images) < 2 ^ 32)) }
+{
+    if !settings.enabled {
+        return Ok(None);
+    }
+    match static_layout(alloc, settings, imported, &memories[imported..], segments)? {
+        None => Ok(None),
+        Some(all) => image_past(alloc, all.as_slice(), beside, settings.page_size),
     }
 }

@@ -2,8 +2,8 @@
 //!
 //! `maps` and `memories` test `entity_map` and `paged_memory`. `types`, `visits` and `conversions`
 //! test `wasm_types`, `wasm_trace` and `wasm_convert`; `records`, `groups` and `builders` test
-//! `wasm_module` and `module_types`; `objects`, `structs` and `contexts` test `gc_layout`,
-//! `vm_structs` and `vm_offsets`.
+//! `wasm_module` and `module_types`; `images` tests `memory_images`; `objects`, `structs` and
+//! `contexts` test `gc_layout`, `vm_structs` and `vm_offsets`.
 #![tactic(auto)]
 
 #[cfg(test)]
@@ -14,6 +14,8 @@ mod contexts;
 mod conversions;
 #[cfg(test)]
 mod groups;
+#[cfg(test)]
+mod images;
 #[cfg(test)]
 mod maps;
 #[cfg(test)]
