@@ -20,6 +20,7 @@ impl ModuleTranslation<'_> {
     /// The memory with whose image the runtime data pass 4294967295 bytes; those of passive
     /// segments count first. `None` where the images do not make them so large. No image is made,
     /// and where images are off nothing is allocated.
+    #[tactic(auto, using(crate::proofs::Sized::none_large))]
     pub fn too_large_at(
         &self,
         alloc: Global,
