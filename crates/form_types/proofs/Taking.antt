@@ -9,6 +9,7 @@ use Rattle.rule_spec.specs.Lists.{declared_from, declared_groups}
 use Rattle.form_data.specs.declared.types.RecGroup.{RecGroup}
 use Rattle.form_data.specs.declared.types.SubType.{SubType}
 use Rattle.form_data.specs.Views.{group_of, sub_type_of}
+use Rattle.form_types.specs.declared.canonical.CanonicalGroup.{CanonicalGroup}
 use Rattle.form_types.specs.declared.numbering.Numbering.{Numbering}
 use Rattle.form_types.specs.Types.{NamedGroup, types_by_id}
 use Rattle.form_types.specs.Adding.{AddsGroup}
@@ -24,6 +25,15 @@ took-none n is none = record {
   built = λ on. built-none n none;
   few = λ on. omega arith;
   short = λ on. All-nil HasShortLists;
+}
+
+-- the key of the last group says nothing of those that were taken
+pub took-keyed : (done : List NamedGroup) (n : Numbering) (key : CanonicalGroup) → Took n done → Took (record n { key = key }) done
+took-keyed done n key t = record {
+  below = t.below;
+  built = λ on. let b = t.built on in record { keys = b.keys; numbered = b.numbered; counted = b.counted; listed = b.listed };
+  few = t.few;
+  short = t.short;
 }
 
 -- ---- what tests of a group say

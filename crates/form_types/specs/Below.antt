@@ -11,6 +11,9 @@ StorageIsBelow bound t = All (IsBelow bound) (storage_edges (λ i. i) t)
 unfoldable pub FieldIsBelow : ℕ → Field UnpackedIndex → Type 0
 FieldIsBelow bound f = All (IsBelow bound) (field_edges (λ i. i) f)
 
+abbrev pub HasSupertypeBelow : Declared → Type 0
+HasSupertypeBelow d = IfSome d.type.supertype (IsBelow d.index)
+
 -- indices below the end of the type's own group, and a supertype at a lower index (core
 -- specification, 3.2, recursive types)
 pub record NamesBelow (d : Declared) : Type 0 where

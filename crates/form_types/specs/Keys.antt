@@ -22,6 +22,10 @@ pub record GroupKey : Type 0 where
 abbrev pub group_key : Group (Target ℕ) (Target ℕ) → GroupKey
 group_key g = record { codes = group_codes g; references = map index_of (group_edges (λ t. t) g) }
 
+-- a group as it was read
+abbrev pub read_key : Group UnpackedIndex UnpackedIndex → GroupKey
+read_key g = record { codes = group_codes g; references = group_edges (λ i. i) g }
+
 abbrev pub key_of : CanonicalGroup → GroupKey
 key_of key = record { codes = key.frame.items; references = key.references.items }
 

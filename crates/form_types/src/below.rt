@@ -1,11 +1,11 @@
 //! Types whose indices are below a bound (core specification, 3.2, recursive types).
 
-ghost use Rattle.std.specs.Prelude.{◌↔◌, ◌+◌, ◌<◌, ◌^◌, map, length, All, IsTrue, IfSome};
+ghost use Rattle.std.specs.Prelude.{◌≡◌, ◌↔◌, ◌+◌, ◌<◌, ◌^◌, map, length, All, IsTrue, IfSome};
 ghost use Rattle.form_data.specs.Views.{function_of, composite_of, sub_type_of};
-ghost use Rattle.wasm_spec.specs.TypeData.{Func, heap_of, value_of, storage_of, field_of};
+ghost use Rattle.wasm_spec.specs.TypeData.{Func, heap_of, value_of, storage_of, field_of, group_edges};
 ghost use Rattle.rule_spec.specs.Lists.{declared_from};
 ghost use Rattle.rule_spec.specs.TypeRules.{IsBelow, HeapIsBelow, ValueIsBelow, KindIsBelow};
-ghost use Rattle.form_types.specs.Below.{StorageIsBelow, FieldIsBelow, NamesBelow};
+ghost use Rattle.form_types.specs.Below.{StorageIsBelow, FieldIsBelow, HasSupertypeBelow, NamesBelow};
 
 use form_data::{CompositeInnerType, FuncType, SubType};
 use wasm_spec::{FieldType, HeapType, StorageType, UnpackedIndex, ValType};
@@ -107,16 +107,33 @@ pub fn names_below(end: usize, index: usize, ty: &SubType) -> bool
 }
 
 /// Whether the members of a group, the first with the index `start`, name only types before its
-/// end, and have supertypes before themselves.
-pub fn members_name_below(start: usize, types: &[SubType]) -> bool
-    requires { start + length types.now < 2 ^ 30 }
+/// end, and have supertypes before themselves. `named` is what they name.
+///
+/// Most groups name no type, so what they name is asked rather than their lists of values.
+pub fn members_name_below(start: usize, types: &[SubType], named: &[UnpackedIndex]) -> bool
+    requires few { start + length types.now < 2 ^ 30 }
+    requires named { named.now ≡ group_edges (λ i. i) (map sub_type_of types.now) }
     ensures { IsTrue result ↔ All NamesBelow (declared_from (start + length types.now) start (map sub_type_of types.now)) }
 {
     let end = start + types.len();
+    are_below(end, named) && supertypes_are_below(start, types)
+}
+
+fn are_below(bound: usize, named: &[UnpackedIndex]) -> bool
+    ensures { IsTrue result ↔ All (IsBelow bound) named.now }
+{
+    named.iter().all(|index| is_below(bound, index))
+}
+
+/// Whether each member of a group, the first with the index `start`, has a supertype before itself, if any.
+fn supertypes_are_below(start: usize, types: &[SubType]) -> bool
+    requires { start + length types.now < 2 ^ 30 }
+    ensures { IsTrue result ↔ All HasSupertypeBelow (declared_from (start + length types.now) start (map sub_type_of types.now)) }
+{
     let mut index = start;
     let mut left = types;
     while let Some((first, others)) = left.split_first() {
-        if !names_below(end, index, first) {
+        if !supertype_is_below(index, first) {
             return false;
         }
         index += 1;

@@ -4,11 +4,11 @@ ghost use Rattle.std.specs.Prelude.{◌≡◌, ◌+◌, ◌<◌, ◌^◌, ◌++�
 ghost use Rattle.std.specs.Hash.DefaultHasher as sip;
 ghost use Rattle.std.specs.List.{range_with_len, fold};
 ghost use Rattle.form_reader.specs.TypeBytes.{type_bytes};
-ghost use Rattle.wasm_spec.specs.TypeData.{group_edges};
 ghost use Rattle.form_data.specs.Views.{sub_type_of};
+ghost use Rattle.form_types.specs.Types.{NamedGroup};
 ghost use Rattle.form_types.specs.Seen.{ids_of};
 ghost use Rattle.form_types.specs.Placed.{placed};
-ghost use Rattle.form_types.specs.Keys.{key_of, targets};
+ghost use Rattle.form_types.specs.Keys.{key_of, read_key, targets};
 ghost use Rattle.form_types.specs.Finding.{first_of, next_key};
 
 use crate::canonical::CanonicalGroup;
@@ -34,21 +34,22 @@ pub fn seed_of(wasm: &[u8]) -> u64
     digest.finish()
 }
 
-/// Writes the key of the next group to `key`, whose contents are no longer needed.
-pub fn next_key(
-    key: &mut CanonicalGroup,
-    ids: &[CoreTypeId],
-    types: &[SubType],
-) -> Result<(), AllocError>
-    requires { length ids.now < 2 ^ 30 }
-    ensures key { OnOk result (key_of key.new ≡ next_key (ids_of ids.now) (placed (map sub_type_of types.now))) }
-    ensures count { OnOk result (length key.new.references.items ≡ length (group_edges (λ i. i) (map sub_type_of types.now))) }
+/// Writes a group, as it was read, to `key`, whose contents are no longer needed.
+pub fn read_key(key: &mut CanonicalGroup, types: &[SubType]) -> Result<(), AllocError>
+    ensures { OnOk result (key_of key.new ≡ read_key (map sub_type_of types.now)) }
 {
     key.clear();
-    key.add_group(types)?;
+    key.add_group(types)
+}
+
+/// What was read of the next group becomes its key.
+pub fn name_key(key: &mut CanonicalGroup, ids: &[CoreTypeId])
+    requires { length ids.now < 2 ^ 30 }
+    ensures key { (g : NamedGroup) → key_of key.old ≡ read_key g → key_of key.new ≡ next_key (ids_of ids.now) (placed g) }
+    ensures count { length key.new.references.items ≡ length key.old.references.items }
+{
     let start = ids.len() as u32;
     name_targets(&mut key.references, Seen { ids, start });
-    Ok(())
 }
 
 /// Each reference becomes what it names.

@@ -2,6 +2,7 @@
 
 ghost use Rattle.std.specs.Prelude.{◌≡◌, ◌+◌, ◌<◌, ◌^◌, [], length, map, OnOk};
 ghost use Rattle.form_data.specs.Views.{group_of};
+ghost use Rattle.form_types.specs.Keys.{key_of, read_key};
 ghost use Rattle.form_types.specs.Distinct.{IsListed};
 ghost use Rattle.form_types.specs.Adding.{HasFewIds, AddsGroup};
 ghost use Rattle.form_types.specs.Taken.{Took};
@@ -9,7 +10,7 @@ ghost use Rattle.form_types.specs.Taken.{Took};
 use crate::below::members_name_below;
 use crate::canonical::CanonicalGroup;
 use crate::distinct::Distinct;
-use crate::finding::{FirstIds, find_or_note, next_key, push_row, seed_of};
+use crate::finding::{FirstIds, find_or_note, name_key, push_row, read_key, seed_of};
 use crate::named::name_group;
 use crate::short::members_are_short;
 use entity_map::Seeded;
@@ -53,8 +54,10 @@ impl Numbering {
         }
     }
 
-    /// Gives ids to the members of a group: those of an equal group, or new ones.
+    /// Gives ids to the members of a group: those of an equal group, or new ones. `key` is the group
+    /// as it was read.
     fn add_group(&mut self, alloc: Global, mut group: RecGroup) -> Result<(), AllocError>
+        requires read { key_of self.old.key ≡ read_key (group_of group) }
         requires some { 0 < length group.types.items }
         requires room { length self.old.declared.items + length group.types.items < 2 ^ 30 }
         requires few { self.old.distinct.next + length group.types.items < 2 ^ 30 }
@@ -64,7 +67,7 @@ impl Numbering {
         ensures stays { self.new.names_below ≡ self.old.names_below }
     {
         let count = group.types.len();
-        next_key(&mut self.key, &self.declared, group.types.as_slice())?;
+        name_key(&mut self.key, &self.declared);
         let next = self.distinct.next;
         match find_or_note(alloc, &mut self.first_ids, &self.key, next)? {
             Some(first) => push_row(&mut self.declared, first, count)?,
@@ -97,7 +100,12 @@ impl TakeGroups for Numbering {
         if !members_are_short(group.types.as_slice()) {
             return Err(AllocError);
         }
-        if !members_name_below(start, group.types.as_slice()) {
+        read_key(&mut self.key, group.types.as_slice())?;
+        if !members_name_below(
+            start,
+            group.types.as_slice(),
+            self.key.references.as_slice(),
+        ) {
             self.names_below = false;
             return Ok(());
         }

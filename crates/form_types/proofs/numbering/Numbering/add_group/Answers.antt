@@ -14,12 +14,12 @@ use Rattle.form_types.proofs.numbering.Numbering.add_group.Goals as goal
 pub returns-in_ok-push_row-in-Some-clause-adds : goal.returns-in_ok-push_row-in-Some-clause-adds
 returns-in_ok-push_row-in-Some-clause-adds c =
     let g = group_of c.args.group in
-    let key = c.next_key.new.key in
+    let key = c.name_key.new.key in
     let long : c.len-count.result ≡ length g = omega (arith, c.len-count.ensures, c.args.group.types.ok.0, length-map c.args.group.types.items sub_type_of) in
     let found : Some c.in-Some.first ≡ first_of c.args.self.now.first_ids key = sym c.in-Some.is ∙ c.in_ok-first.ensures.found in
     record {
       key = key;
-      key_is = c.in_ok-next_key.ensures.key ∙ (λ k. next_key (ids_of (c.deref.ensures.value k)) (placed (map sub_type_of (c.as_slice.ensures.value k))));
+      key_is = c.name_key.ensures.key g c.requires.read ∙ (λ k. next_key (ids_of (c.deref.ensures.value k)) (placed g));
       adds = subst (λ o. AddsBy c.args.self.now (record c.args.self.now { first_ids = c.find_or_note.new.first_ids; key = key; declared = c.push_row.new.ids }) g key o) found (record {
         ids = c.in_ok-push_row-in-Some.ensures ∙ ap (λ n. ids_of c.args.self.now.declared.items ++ range_with_len c.in-Some.first n) long;
         listed = c.requires.listed;
@@ -30,7 +30,7 @@ returns-in_ok-push_row-in-Some-clause-adds c =
 pub returns-in_ok-push-in-None-clause-adds : goal.returns-in_ok-push-in-None-clause-adds
 returns-in_ok-push-in-None-clause-adds c =
     let g = group_of c.args.group in
-    let key = c.next_key.new.key in
+    let key = c.name_key.new.key in
     let long : c.len-count.result ≡ length g = omega (arith, c.len-count.ensures, c.args.group.types.ok.0, length-map c.args.group.types.items sub_type_of) in
     let found : None ≡ first_of c.args.self.now.first_ids key = sym c.in-None.is ∙ c.in_ok-first.ensures.found in
     let kept : length c.name_group.new.types ≡ c.args.group.types.len = c.name_group.auto.types ∙ c.as_mut_slice.ensures.len in
@@ -40,7 +40,7 @@ returns-in_ok-push-in-None-clause-adds c =
     (map sub_type_of (c.as_mut_slice.ensures.value i))) in
     record {
       key = key;
-      key_is = c.in_ok-next_key.ensures.key ∙ (λ k. next_key (ids_of (c.deref.ensures.value k)) (placed (map sub_type_of (c.as_slice.ensures.value k))));
+      key_is = c.name_key.ensures.key g c.requires.read ∙ (λ k. next_key (ids_of (c.deref.ensures.value k)) (placed g));
       adds = subst (λ o. AddsBy c.args.self.now (record c.args.self.now { first_ids = c.find_or_note.new.first_ids; distinct = c.push.new.self; key = key; declared = c.push_row-in-None.new.ids }) g key o) found (record {
         ids = c.in_ok-push_row-in-None.ensures ∙ ap (λ n. ids_of c.args.self.now.declared.items ++ range_with_len c.args.self.now.distinct.next n) long;
         listed = subst (λ x. IsListed c.push.new.self (map group_of c.args.self.now.distinct.groups.items ++ x ∷ [])) named c.in_ok-push-in-None.ensures;
