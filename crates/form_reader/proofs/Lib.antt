@@ -6,6 +6,7 @@ pub mod GroupTakers
 pub mod Listed
 pub mod Loop
 pub mod NameLaws
+pub mod OneConstant
 pub mod OperatorList
 pub mod Outcomes
 pub mod SectionLaws

@@ -132,7 +132,7 @@ impl<'d> Cursor<'d> {
         } = kind
         {
             *table = table_index;
-            return self.expression_into(&mut offset.ops);
+            return self.offset_into(&mut offset.ops);
         }
         let offset = self.expression(alloc)?;
         *kind = ElementKind::Active {

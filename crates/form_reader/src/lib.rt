@@ -36,6 +36,7 @@ mod laws;
 mod limits;
 mod module;
 mod numbers;
+mod offsets;
 mod operators;
 mod sections;
 mod segments;

@@ -10,6 +10,9 @@ use wasm_spec::{Operator, What};
 /// The byte after the last operator.
 pub const END: u8 = 0x0B;
 
+/// The first byte of an `i32.const`.
+pub const I32_CONST: u8 = 0x41;
+
 impl<'d> Cursor<'d> {
     /// The operator, after its first byte.
     #[tactic(auto, unfolding(crate::specs::ExpressionRows::operator_after, crate::specs::ExpressionRows::indexed))]
@@ -42,7 +45,7 @@ impl<'d> Cursor<'d> {
         ensures { Reads (constant_after first).read (λ x. x) self.old.rest.now self.new.rest.now result }
     {
         match first {
-            0x41 => Ok(Operator::I32Const { value: self.s32()? }),
+            I32_CONST => Ok(Operator::I32Const { value: self.s32()? }),
             0x42 => Ok(Operator::I64Const { value: self.s64()? }),
             0x43 => {
                 let bits = u32::from_le_bytes(self.byte_array()?);

@@ -99,7 +99,7 @@ impl<'d> Cursor<'d> {
         } = &mut segment.kind
         {
             *memory = memory_index;
-            self.expression_into(&mut offset.ops)?;
+            self.offset_into(&mut offset.ops)?;
         } else {
             let offset = self.expression(alloc)?;
             segment.kind = DataKind::Active {

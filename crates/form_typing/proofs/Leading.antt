@@ -1,10 +1,11 @@
 -- Operators one after another lead from one stack to one other.
-use Rattle.std.proofs.Common.{◌≡◌, pos, ℕ, ◌+◌, ◌<◌, List, [], ◌∷◌, ◌++◌, length, take, drop, get_or, None, Some, refl, sym, ap, subst, ◌∙◌}
+use Rattle.std.proofs.Common.{◌≡◌, pos, ℤ, ℕ, ◌+◌, ◌<◌, List, [], ◌∷◌, ◌++◌, length, take, drop, get_or, None, Some, refl, sym, ap, subst, ◌∙◌}
 use Rattle.std.proofs.lemmas.List.{append_cancel_right, take_more, drop_more, take-append-drop}
 use Rattle.wasm_spec.specs.declared.entities.GlobalType.{GlobalType}
 use Rattle.wasm_spec.specs.declared.operators.Operator.{Operator}
 use Rattle.wasm_spec.specs.declared.operators.Operator.TheVariants.{I32Const}
 use Rattle.rule_spec.specs.declared.classes.Class.{Class}
+use Rattle.rule_spec.specs.declared.classes.Class.TheVariants.{I32}
 use Rattle.rule_spec.specs.Lists.{Lists}
 use Rattle.rule_spec.specs.Typing.{Signature, signature, Step, Leads}
 use Rattle.form_typing.specs.Stack.{Taken}
@@ -60,3 +61,19 @@ module _ (l : Lists) (visible : List GlobalType) where
       let same : before ≡ parts.0 = leads_same (take k ops) [] before parts.0 first parts.1 in
       let step = parts.2.1 in
       fails step.signed step.is_signed step.rest (same ∙ step.has_taken)
+
+  -- one `i32.const` leads to an i32
+  leads_one : (value : ℤ) → Leads l visible (I32Const value ∷ []) [] (I32 ∷ [])
+  leads_one value = (I32 ∷ [], record { signed = record { takes = []; pushes = I32 }; rest = []; is_signed = refl; has_taken = refl; has_pushed = refl }, refl)
+
+  same_class : (a b : Class) → a ∷ [] ≡ b ∷ [] → b ≡ a
+  same_class a b e = sym cc
+
+  -- and to no other class
+  pub one_leads : (value : ℤ) (ops : List Operator) (c : Class) (T : Type 0) → ops ≡ I32Const value ∷ [] → (T → c ≡ I32) × (c ≡ I32 → T)
+      → (T → Leads l visible ops [] (c ∷ [])) × (Leads l visible ops [] (c ∷ []) → T)
+  one_leads value ops c T is test = (
+    λ t. rw (is, test.0 t) (leads_one value),
+    λ leads. test.1 (same_class I32 c (leads_same (I32Const value ∷ []) [] (I32 ∷ []) (c ∷ []) (leads_one value)
+        (subst (λ (os : List Operator). Leads l visible os [] (c ∷ [])) is leads))),
+  )

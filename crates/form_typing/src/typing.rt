@@ -1,7 +1,9 @@
 //! Whether an expression has a class.
 
-ghost use Rattle.std.specs.Prelude.{◌≡◌, ◌↔◌, ◌∷◌, [], IsTrue, IfOk};
+ghost use Rattle.std.specs.Prelude.{◌≡◌, ◌↔◌, ◌∷◌, [], IsTrue, IfOk, IfSome};
+ghost use Rattle.wasm_spec.specs.declared.operators.Operator.TheVariants.{I32Const};
 ghost use Rattle.form_data.specs.Views.{expression_of};
+ghost use Rattle.rule_spec.specs.declared.classes.Class.TheVariants.{I32};
 ghost use Rattle.rule_spec.specs.Typing.{HasClass};
 ghost use Rattle.form_lists.specs.Views.{lists_of};
 ghost use Rattle.form_typing.specs.Defaults.{defaults as defaults_of_types};
@@ -11,7 +13,7 @@ use form_data::ConstExpr;
 use form_lists::Lists;
 use rule_spec::Class;
 use std::alloc::AllocError;
-use wasm_spec::GlobalType;
+use wasm_spec::{GlobalType, Operator};
 
 /// Whether the expression leads from the empty stack to one value of the class, where these globals
 /// are visible.
@@ -29,6 +31,10 @@ pub fn is_typed(
     requires { defaults.now ≡ defaults_of_types (lists_of lists.now) }
     ensures { IfOk result (λ typed. IsTrue typed ↔ HasClass (lists_of lists.now) visible.now (expression_of expression.now) class) }
 {
+    // Most expressions are one constant.
+    if let Some(_value) = one_i32(expression) {
+        return Ok(is_i32(class));
+    }
     stack.clear();
     for op in &expression.ops {
         match take_operands(lists, defaults, visible, op, stack) {
@@ -37,6 +43,34 @@ pub fn is_typed(
         }
     }
     Ok(is_alone(stack, class))
+}
+
+/// The number of an expression of one `i32.const`.
+#[inline(always)]
+fn one_i32(expression: &ConstExpr) -> Option<i32>
+    ensures { IfSome result (λ value. expression_of expression.now ≡ I32Const value ∷ []) }
+{
+    match only(expression.ops.as_slice()) {
+        Some(Operator::I32Const { value }) => Some(*value),
+        _ => None,
+    }
+}
+
+/// The only operator, if there is only one.
+#[inline(always)]
+fn only(ops: &[Operator]) -> Option<&Operator>
+    ensures { IfSome result (λ op. ops.now ≡ op.now ∷ []) }
+{
+    match ops {
+        [op] => Some(op),
+        _ => None,
+    }
+}
+
+fn is_i32(class: Class) -> bool
+    ensures { IsTrue result ↔ (class ≡ I32) }
+{
+    class == Class::I32
 }
 
 /// Whether the stack holds one value, of this class.

@@ -4,15 +4,19 @@ use Rattle.wasm_spec.specs.declared.operators.Operator.{Operator}
 use Rattle.rule_spec.specs.declared.classes.Class.{Class}
 use Rattle.rule_spec.specs.Typing.{Leads}
 use Rattle.form_lists.specs.Views.{lists_of}
-use Rattle.form_typing.proofs.Leading.{no_operator, leads_same, leads_more, leads_fail}
+use Rattle.form_typing.proofs.Leading.{no_operator, leads_same, leads_more, leads_fail, one_leads}
 use Rattle.form_typing.proofs.typing.is_typed.Goals as goal
+
+pub returns-in-Some : goal.returns-in-Some
+returns-in-Some c =
+    one_leads (lists_of c.args.lists.now) c.args.visible.now _ c.args.expression.now.ops.items c.args.class _ c.in-Some.ensures c.is_i32.ensures
 
 pub loop-op-preserved : goal.loop-op-preserved
 loop-op-preserved c =
     let ops = c.deref-op-items.result.now in
     leads_more (lists_of c.args.lists.now) c.args.visible.now ops c.loop-op.op-index no_operator (get_or ops c.loop-op.op-index no_operator)
-    c.loop-op.stack.items c.take_operands.new.stack.items c.push.new.self.items c.in-Some.pushed c.loop-op-test.true refl
-    c.loop-op.invariant c.in-Some.ensures c.in_ok-push-in-Some.ensures.items
+    c.loop-op.stack.items c.take_operands.new.stack.items c.push.new.self.items c.in-Some-take_operands.pushed c.loop-op-test.true refl
+    c.loop-op.invariant c.in-Some-take_operands.ensures c.in_ok-push-in-Some-take_operands.ensures.items
 
 pub returns-in-None : goal.returns-in-None
 returns-in-None c =
