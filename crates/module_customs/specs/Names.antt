@@ -12,7 +12,8 @@ use Rattle.wasm_index.specs.declared.index.Index.{Index}
 use Rattle.wasm_index.specs.declared.spaces.FuncSpace.{FuncSpace}
 use Rattle.wasm_index.specs.Index.{number_of}
 use Rattle.module_customs.specs.Kept.{last_at}
-use Rattle.custom_sections.specs.NameReading.{NameLists, no_names, joined, names_of_section}
+use Rattle.custom_sections.specs.NameLists.{NameLists, no_names, joined}
+use Rattle.custom_sections.specs.NameReading.{names_of_section}
 use Rattle.custom_sections.specs.Views.{text_of}
 use Rattle.init_plan.specs.declared.debug_info.NameSection.{NameSection}
 use Rattle.module_customs.specs.declared.names.DeclaredNames.{DeclaredNames}

@@ -5,7 +5,7 @@ use Rattle.std.specs.Str.{bytes_eq}
 use Rattle.std.proofs.lemmas.List.Sums.{sum_by-cons}
 use Rattle.wasm_spec.specs.Module as plain
 use Rattle.wasm_spec.specs.Module.{Payload, Custom}
-use Rattle.custom_sections.specs.NameReading.{NameLists}
+use Rattle.custom_sections.specs.NameLists.{NameLists}
 use Rattle.module_customs.specs.Names.{contents_of, names_in, names_below, names_behind, names_after, module_names}
 use Rattle.plan_laws.proofs.ModuleContents.{custom_bytes}
 use Rattle.plan_laws.proofs.NameBytes.{entry_bytes, names_bytes, joined-few, section-few}
