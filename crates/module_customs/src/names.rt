@@ -50,6 +50,7 @@ pub fn kept_names<'d>(
 }
 
 /// Adds the names of a section before which `declared` functions are declared.
+#[tactic(auto, using(crate::proofs::AsTold::names_as_told))]
 fn add_section<'d>(
     alloc: Global,
     kept: &mut NameSection<'d>,
