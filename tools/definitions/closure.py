@@ -1,5 +1,8 @@
 """The definitions that a contract rests on: names are followed from its clauses through the `use`
-lines of specs/."""
+lines of specs/.
+
+Of a law only the statement is followed: its body is shut to whoever cites it.
+"""
 
 import re
 
@@ -56,9 +59,9 @@ def is_end(lines, number):
     return not text.startswith(("requires", "ensures", "//")) and text.endswith((" {", "{}", ";")) and "→" not in text
 
 
-def statement_of(definition):
-    """The text of a definition without comments and names of fields, and the names that it binds."""
-    lines = [COMMENT.sub("", line) for line in definition.lines()] + definition.blocks()
+def statement_of(definition, with_proofs=False):
+    """The text of a definition, or of the statement of a law, without comments and names of fields, and the names that it binds."""
+    lines = [COMMENT.sub("", line) for line in (definition.lines() if with_proofs else definition.told())] + definition.blocks()
     text, bound = "\n".join(lines), set()
     for pattern in (BINDERS, TAKEN):
         bound.update(name for found in pattern.findall(text) for name in found.split())
@@ -101,10 +104,13 @@ def cited(file, text, bound=frozenset()):
 
 class Closure:
     """What is reached: definitions in the order of reading, each behind those that it cites; the
-    Rust types; the words of the kit."""
+    Rust types; the words of the kit.
 
-    def __init__(self, all_sources, roots, passed_over=frozenset()):
-        self.sources, self.passed_over = all_sources, passed_over
+    What the proofs of laws cite is not reached, unless it is asked for.
+    """
+
+    def __init__(self, all_sources, roots, passed_over=frozenset(), with_proofs=False):
+        self.sources, self.passed_over, self.with_proofs = all_sources, passed_over, with_proofs
         self.definitions, self.rust_types, self.words, self.unknown = {}, set(), set(), set()
         for root in sorted(roots):
             self.reach(root)
@@ -134,7 +140,7 @@ class Closure:
         if key in self.definitions:
             return
         self.definitions[key] = None
-        for other in [] if definition.name in self.passed_over else sorted(cited(file, *statement_of(definition))):
+        for other in [] if definition.name in self.passed_over else sorted(cited(file, *statement_of(definition, self.with_proofs))):
             self.reach(other)
         # Behind what it cites.
         del self.definitions[key]

@@ -12,6 +12,7 @@ HEAD = """\
 `tools/audit --write` writes this page from `crates/*/specs`. `tools/audit` fails where the page differs from them.
 
 The contract of `run` depends on {definitions} definitions: {lines} lines in {files} files, with those behind `AlsoHolds`, which follow from the rest. They are listed here file by file, in the order of reading.
+Of a law only the statement counts: its proof is shut to whoever cites it.
 Each has its comment's sentence, its lines in the file, and its section of the WebAssembly core specification 3.0 where the comment names one.
 A section is a chapter's number and a title, since numbers below chapters differ between printings. `..` marks a sentence that is cut here.
 The [index](#index) at the end has all names.
@@ -104,7 +105,7 @@ def sentence_and_section(comment):
 
 
 def lines_of(definition):
-    first, last = definition.start + 1, definition.end
+    first, last = definition.start + 1, definition.start + len(definition.told())
     return str(first) if first == last else f"{first}-{last}"
 
 

@@ -31,9 +31,19 @@ class Definition:
     def lines(self):
         return self.file.lines[self.start : self.end]
 
+    def is_law(self):
+        """Whether its body is shut to whoever cites it, as it is unless `abbrev` or `unfoldable` opens it."""
+        return self.kind in ("function", "private") and not self.file.lines[self.start].strip().startswith(("abbrev", "unfoldable"))
+
+    def told(self):
+        """The lines that say what it is: of a law its statement, since no more of it is known."""
+        lines = self.lines()
+        body = re.compile(rf"\s*(unfolding\b|{re.escape(self.name)}(\s|$))")
+        return lines[: next((number for number, line in enumerate(lines) if number and self.is_law() and body.match(line)), len(lines))]
+
     def code_lines(self):
-        """Its lines without comments and blank ones."""
-        return [line for line in self.lines() if is_code(line)]
+        """Its lines without comments and blank ones; of a law those of its statement."""
+        return [line for line in self.told() if is_code(line)]
 
     def blocks(self):
         """The heads of the blocks `module _ ( .. ) where` in which it stands, the outermost first."""

@@ -3,7 +3,8 @@ use Rattle.std.proofs.Common.{◌≡◌, ℕ, suc, ◌-◌, ◌+◌, ◌<◌, �
 use Rattle.std.specs.Option.{option_or}
 use Rattle.std.proofs.lemmas.List.{append-nil}
 use Rattle.custom_sections.specs.Reading.{taken}
-use Rattle.custom_sections.specs.NameReading.{NameLists, no_names, joined, subsection, sized_subsection_at, subsections_before, names_of_section}
+use Rattle.custom_sections.specs.NameLists.{NameLists, no_names, joined}
+use Rattle.custom_sections.specs.NameReading.{subsection, sized_subsection_at, subsections_before, names_of_section}
 use Rattle.custom_sections.proofs.Takes.{read_from_taken, fault_from_none}
 
 pub same_lists : (a b : Option (List ℕ)) (f g : List (ℕ × List ℕ)) (l m : List (ℕ × List (ℕ × List ℕ))) → a ≡ b → f ≡ g → l ≡ m

@@ -9,3 +9,5 @@ pub mod Debugging
 pub mod WorkedHints
 pub mod WorkedNames
 pub mod NameSpellings
+pub mod OnlyTold
+pub mod ToldNames

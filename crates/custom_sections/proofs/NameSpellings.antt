@@ -9,11 +9,12 @@ use Rattle.form_reader.specs.ReadingNumbers.{unsigned_at, counted_bytes_at, name
 use Rattle.form_reader.specs.Agrees.{Agrees, gives_agrees, then_agrees, whole_fills}
 use Rattle.form_reader.specs.NumberLaws.{unsigned_agrees, counted_bytes_agree}
 use Rattle.form_reader.specs.SectionRows.{name_agrees}
-use Rattle.custom_sections.specs.NameGrammar.{naming, name_map, local_naming, subsection_contents, SpellsSubsections, joined_all}
-use Rattle.custom_sections.specs.NameReading.{NameLists, no_names, joined, Partly, elements_before, vector_before, naming_at, naming_before, names_before, one_or_none, locals_before, locals_behind, of_function, module_named, functions_named, locals_named, subsection, sized_subsection_at, subsections_before, names_of_section}
+use Rattle.custom_sections.specs.NameGrammar.{naming, name_map, local_naming, subsection_contents, SpellsSubsections}
+use Rattle.custom_sections.specs.NameLists.{joined_all, NameLists, no_names, joined}
+use Rattle.custom_sections.specs.NameReading.{Partly, elements_before, vector_before, naming_at, naming_before, names_before, one_or_none, locals_before, locals_behind, of_function, module_named, functions_named, locals_named, subsection, sized_subsection_at, subsections_before, names_of_section}
 
 -- the part of which a value is made
-made : {A B : Type 0} (g : Part A) (f : A → B) (bytes : List ℕ) (y : B) → Joined g (λ x. gives (f x)) bytes y
+pub made : {A B : Type 0} (g : Part A) (f : A → B) (bytes : List ℕ) (y : B) → Joined g (λ x. gives (f x)) bytes y
     → (x : A) × g.spells bytes x × (y ≡ f x)
 made g f bytes y t = grind (arith, append-nil)
 
@@ -26,7 +27,7 @@ filled_with names = (names, true)
 -- ---- vectors
 
 -- what is spelled at the front is read, whatever follows
-abbrev ReadsAgain : {A : Type 0} → Partly A → Part A → Type 0
+abbrev pub ReadsAgain : {A : Type 0} → Partly A → Part A → Type 0
 ReadsAgain {A} p g = (front : List ℕ) (x : A) (rest : List ℕ) → g.spells front x → p (front ++ rest) ≡ (Some x, Some rest)
 
 module _ {A : Type 0} (p : Partly A) (g : Part A) (again : ReadsAgain p g) where
@@ -47,18 +48,18 @@ module _ {A : Type 0} (p : Partly A) (g : Part A) (again : ReadsAgain p g) where
   vector_fills : (bytes : List ℕ) (xs : List A) → (vector g).spells bytes xs → vector_before p bytes ≡ (xs, Some [])
   vector_fills bytes xs s = ap (vector_before p) (sym (append-nil bytes)) ∙ vector_again bytes xs [] s
 
-naming_agrees : Agrees naming_at naming
+pub naming_agrees : Agrees naming_at naming
 unfolding naming_at
 naming_agrees = then_agrees (unsigned_agrees 32) (λ index. then_agrees name_agrees (λ text. gives_agrees _))
 
-naming_again : ReadsAgain naming_before naming
+pub naming_again : ReadsAgain naming_before naming
 naming_again front x rest s = ap one_or_none (naming_agrees.again front x rest s)
 
 pub names_again : (front : List ℕ) (names : List (ℕ × List ℕ)) (rest : List ℕ) → name_map.spells front names
     → names_before (front ++ rest) ≡ (names, Some rest)
 names_again = vector_again naming_before naming naming_again
 
-local_again : ReadsAgain locals_before local_naming
+pub local_again : ReadsAgain locals_before local_naming
 local_again front x rest t =
     let m = made name_map (λ locals. (t.value, locals)) t.back x t.is_second in
     let function : unsigned_at 32 (front ++ rest) ≡ Ok (t.value, t.back ++ rest) =
@@ -99,12 +100,12 @@ module _ (contents : List ℕ) (names : NameLists) where
   by_id false false true s = locals_again s
   by_id false false false s = rw s refl
 
-subsection_again : (locals : Bool) (id : ℕ) (contents : List ℕ) (names : NameLists) → (subsection_contents locals id).spells contents names
+pub subsection_again : (locals : Bool) (id : ℕ) (contents : List ℕ) (names : NameLists) → (subsection_contents locals id).spells contents names
     → subsection locals id contents ≡ (names, true)
 unfolding subsection
 subsection_again locals id contents names s = by_id contents names (id == 0) (id == 1) ((id == 2) && locals) s
 
-sized_again : (id : ℕ) (bytes contents rest : List ℕ) → counted_bytes_at (bytes ++ rest) ≡ Ok (contents, rest)
+pub sized_again : (id : ℕ) (bytes contents rest : List ℕ) → counted_bytes_at (bytes ++ rest) ≡ Ok (contents, rest)
     → sized_subsection_at (id ∷ bytes ++ rest) ≡ Ok ((id, contents), rest)
 unfolding sized_subsection_at
 sized_again id bytes contents rest e = rw e refl

@@ -5,7 +5,8 @@ use Rattle.std.proofs.lemmas.Bool.{ne_eqb}
 use Rattle.form_reader.specs.Reading.{whole}
 use Rattle.form_reader.specs.ReadingNumbers.{name_at}
 use Rattle.custom_sections.specs.Reading.{taken}
-use Rattle.custom_sections.specs.NameReading.{NameLists, no_names, joined, module_named, functions_named, locals_named, names_before, locals_before, vector_before, subsection}
+use Rattle.custom_sections.specs.NameLists.{NameLists, no_names, joined}
+use Rattle.custom_sections.specs.NameReading.{module_named, functions_named, locals_named, names_before, locals_before, vector_before, subsection}
 use Rattle.custom_sections.proofs.Takes.{read_from_taken, fault_from_none}
 use Rattle.custom_sections.proofs.Joining.{same_lists, joined_none}
 

@@ -2,7 +2,7 @@
 use Rattle.std.specs.Prelude.{◌≡◌, ℕ, List, [], ◌∷◌, ◌++◌, Bool, ◌==◌, ◌&&◌, Some}
 use Rattle.wasm_spec.specs.Parts.{Part, ◌>>=◌, gives, unsigned, choose, first_byte, all_bytes_as, vector, sized}
 use Rattle.wasm_spec.specs.Grammar.{name}
-use Rattle.custom_sections.specs.NameReading.{NameLists, no_names, joined}
+use Rattle.custom_sections.specs.NameLists.{NameLists, no_names}
 
 -- an index and its name
 abbrev pub naming : Part (ℕ × List ℕ)
@@ -41,7 +41,3 @@ SpellsSubsections locals bytes [] = bytes ≡ []
 SpellsSubsections locals bytes (names ∷ later) =
     (front : List ℕ) × (back : List ℕ) × (bytes ≡ front ++ back)
     × (name_subsection locals).spells front names × SpellsSubsections locals back later
-
-abbrev pub joined_all : List NameLists → NameLists
-joined_all [] = no_names
-joined_all (names ∷ later) = joined names (joined_all later)

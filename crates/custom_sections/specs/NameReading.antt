@@ -1,9 +1,9 @@
 -- What a name section gives: the names before its first fault (core specification, appendix, name
 -- section).
 use Rattle.std.specs.Prelude.{ℕ, zero, suc, List, [], ◌∷◌, ◌++◌, length, Bool, true, false, ◌==◌, ◌&&◌, Option, Some, None, Result, Ok, Err, if◌then◌else◌}
-use Rattle.std.specs.Option.{option_or}
 use Rattle.form_reader.specs.Reading.{Fault, Reader, ◌>>=◌, gives_at, first_byte_at, whole}
 use Rattle.form_reader.specs.ReadingNumbers.{unsigned_at, counted_bytes_at, name_at}
+use Rattle.custom_sections.specs.NameLists.{NameLists, no_names, joined}
 
 -- ---- vectors up to a fault
 
@@ -75,24 +75,6 @@ abbrev pub locals_before : Partly (ℕ × List (ℕ × List ℕ))
 locals_before bytes = locals_behind (unsigned_at 32 bytes)
 
 -- ---- subsections
-
--- names in the order of the section
-pub record NameLists : Type 0 where
-  -- the last name of the module
-  pub module_name : Option (List ℕ)
-  pub functions : List (ℕ × List ℕ)
-  pub locals : List (ℕ × List (ℕ × List ℕ))
-
-abbrev pub no_names : NameLists
-no_names = record { module_name = None; functions = []; locals = [] }
-
--- names, and later ones
-abbrev pub joined : NameLists → NameLists → NameLists
-joined names later = record {
-  module_name = option_or later.module_name names.module_name;
-  functions = names.functions ++ later.functions;
-  locals = names.locals ++ later.locals;
-}
 
 -- there was no fault, and no byte remains
 abbrev pub is_filled : Option (List ℕ) → Bool

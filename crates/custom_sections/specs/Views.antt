@@ -5,7 +5,7 @@ use Rattle.std.specs.Borrow.{Bor}
 use Rattle.std.specs.Global.{Vec}
 use Rattle.custom_sections.specs.declared.hints.Hint.{Hint}
 use Rattle.custom_sections.specs.declared.names.Names.{Names}
-use Rattle.custom_sections.specs.NameReading.{NameLists}
+use Rattle.custom_sections.specs.NameLists.{NameLists}
 
 -- a function with its hints
 abbrev pub hint_entry_of : ℕ × Vec Hint → ℕ × List Hint

@@ -2,8 +2,10 @@
 
 ghost use Rattle.std.specs.Prelude.{◌≡◌, ◌↔◌, ℕ, List, ◌++◌, Bool, Some};
 ghost use Rattle.custom_sections.specs.declared.hints.Hint.{Hint};
-ghost use Rattle.custom_sections.specs.NameReading.{NameLists, names_before, names_of_section};
-ghost use Rattle.custom_sections.specs.NameGrammar.{name_map, SpellsSubsections, joined_all};
+ghost use Rattle.custom_sections.specs.NameLists.{NameLists, joined_all};
+ghost use Rattle.custom_sections.specs.NameReading.{names_before, names_of_section};
+ghost use Rattle.custom_sections.specs.NameGrammar.{name_map, SpellsSubsections};
+ghost use Rattle.custom_sections.specs.CutNames.{TellNames};
 ghost use Rattle.custom_sections.specs.HintReading.{hints_of_section};
 ghost use Rattle.custom_sections.specs.HintGrammar.{hint_section};
 
@@ -14,6 +16,13 @@ pub fn spelled_names_are_read()
         → names_before (front ++ rest) ≡ (names, Some rest) }
     ensures section { (locals : Bool) (bytes : List ℕ) (all : List NameLists) → SpellsSubsections locals bytes all
         → names_of_section locals bytes ≡ joined_all all }
+{}
+
+/// Names are read exactly as the contents of a section tell them: those before the first fault, and
+/// no contents tell other names.
+pub fn told_names_are_read()
+    ensures { (locals : Bool) (contents : List ℕ) (names : NameLists)
+        → TellNames locals contents names ↔ (names_of_section locals contents ≡ names) }
 {}
 
 /// Hints are read exactly where the grammar spells them: all that the contents of a section spell,

@@ -2,7 +2,7 @@
 //!
 //! `read_names` returns the names before the first fault of the section. `read_hints` returns all
 //! hints, or `None` where the contents are no such section. Laws prove that what the grammars spell
-//! is read completely.
+//! is read completely, and which names a section with a fault tells.
 //!
 //! ```
 //! let names = read_names(alloc, contents, true)?; // true: also names of locals
@@ -26,6 +26,6 @@ mod worked;
 
 pub use debug::is_debug_name;
 pub use hints::{Hint, read_hints};
-pub use laws::{spelled_hints_are_read, spelled_names_are_read};
+pub use laws::{spelled_hints_are_read, spelled_names_are_read, told_names_are_read};
 pub use names::{Names, read_names};
-pub use worked::{worked_debug_names, worked_hints, worked_names};
+pub use worked::{worked_cut_names, worked_debug_names, worked_hints, worked_names};

@@ -5,7 +5,8 @@ ghost use Rattle.std.specs.Option.{option_map};
 ghost use Rattle.custom_sections.specs.Reading.{taken};
 ghost use Rattle.custom_sections.specs.Views.{text_of, locals_of, names_of};
 ghost use Rattle.custom_sections.specs.NameReading.{naming_at, names_before, locals_before, vector_before, sized_subsection_at};
-ghost use Rattle.custom_sections.specs.NameReading.{subsection as subsection_names, joined, is_filled as filled, names_of_section};
+ghost use Rattle.custom_sections.specs.NameLists.{joined};
+ghost use Rattle.custom_sections.specs.NameReading.{subsection as subsection_names, is_filled as filled, names_of_section};
 ghost use Rattle.form_reader.specs.Reading.{whole};
 ghost use Rattle.form_reader.specs.ReadingNumbers.{name_at};
 

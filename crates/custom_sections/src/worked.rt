@@ -3,7 +3,9 @@
 ghost use Rattle.std.specs.Prelude.{◌≡◌, ℕ, ◌<◌, List, [], ◌∷◌, ◌++◌, take, length, codes, Some, None, true, false};
 ghost use Rattle.custom_sections.specs.declared.hints.Hint.{Hint};
 ghost use Rattle.custom_sections.specs.HintGrammar.{hint_section};
-ghost use Rattle.custom_sections.specs.NameReading.{no_names, names_of_section};
+ghost use Rattle.custom_sections.specs.NameLists.{no_names};
+ghost use Rattle.custom_sections.specs.CutNames.{TellNames};
+ghost use Rattle.custom_sections.specs.NameReading.{names_of_section};
 ghost use Rattle.custom_sections.specs.DebugNames.{is_debug};
 
 /// Names of custom sections.
@@ -41,4 +43,13 @@ pub fn worked_names()
     ensures locals_are_read { names_of_section true (0x02 ∷ 0x06 ∷ 0x01 ∷ 0x03 ∷ 0x01 ∷ 0x00 ∷ 0x01 ∷ 0x78 ∷ [])
         ≡ record no_names { locals = (3, (0, codes "x") ∷ []) ∷ [] } }
     ensures fault_within_locals { names_of_section true (0x02 ∷ 0x02 ∷ 0xFF ∷ 0xFF ∷ 0x00 ∷ 0x02 ∷ 0x01 ∷ 0x6D ∷ []) ≡ no_names }
+{}
+
+/// Two names, and two functions with names of locals, each cut in the second.
+pub fn worked_cut_names()
+    ensures first_name { TellNames false (0x01 ∷ 0x06 ∷ 0x02 ∷ 0x00 ∷ 0x01 ∷ 0x61 ∷ 0x01 ∷ 0x05 ∷ [])
+        (record no_names { functions = (0, codes "a") ∷ [] }) }
+    ensures not_nothing { ¬ TellNames false (0x01 ∷ 0x06 ∷ 0x02 ∷ 0x00 ∷ 0x01 ∷ 0x61 ∷ 0x01 ∷ 0x05 ∷ []) no_names }
+    ensures first_local { TellNames true (0x02 ∷ 0x07 ∷ 0x02 ∷ 0x03 ∷ 0x02 ∷ 0x00 ∷ 0x01 ∷ 0x78 ∷ 0x01 ∷ [])
+        (record no_names { locals = (3, (0, codes "x") ∷ []) ∷ [] }) }
 {}

@@ -5,3 +5,4 @@ mod LocalNames
 mod NamesInTurn
 mod HintsInTurn
 mod FirstHints
+pub mod AsTold

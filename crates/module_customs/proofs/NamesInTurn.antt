@@ -8,7 +8,7 @@ use Rattle.std.proofs.lemmas.List.{append-nil, length-append}
 use Rattle.std.proofs.lemmas.List.Elements.{filter_map-append}
 use Rattle.wasm_spec.specs.Module.{Import, imports_of_section, function_types_of_section, function_import}
 use Rattle.wasm_spec.specs.Module as plain
-use Rattle.custom_sections.specs.NameReading.{NameLists, no_names, joined}
+use Rattle.custom_sections.specs.NameLists.{NameLists, no_names, joined}
 use Rattle.init_plan.specs.declared.debug_info.NameSection.{NameSection}
 use Rattle.module_customs.specs.Names.{functions_among, one_if, Text, contents_of, names_in, names_below, names_after, names_behind, KeepsNames}
 

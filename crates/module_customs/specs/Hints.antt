@@ -5,7 +5,7 @@ use Rattle.std.specs.List.{filter_map}
 use Rattle.std.specs.Option.{option_map, option_and_then}
 use Rattle.wasm_spec.specs.Module as plain
 use Rattle.custom_sections.specs.declared.hints.Hint.{Hint}
-use Rattle.custom_sections.specs.HintReading.{hints_of_section}
+use Rattle.module_customs.specs.Told.{hints_told}
 use Rattle.module_customs.specs.Kept.{kept_hint}
 use Rattle.init_plan.specs.declared.debug_info.BranchHint.{BranchHint}
 use Rattle.module_customs.specs.Names.{contents_of}
@@ -16,7 +16,7 @@ HintLists = List (ℕ × List Hint)
 
 -- what the contents of a section of hints give: all, or with a fault anywhere nothing
 abbrev pub hints_in : Option (List ℕ) → Option HintLists
-hints_in contents = option_and_then hints_of_section contents
+hints_in contents = option_and_then hints_told contents
 
 abbrev pub hint_lists : plain.Payload → Option HintLists
 hint_lists p = hints_in (contents_of (codes "metadata.code.branch_hint") p)

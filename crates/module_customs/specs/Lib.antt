@@ -1,4 +1,5 @@
 pub mod Kept
+pub mod Told
 pub mod Names
 pub mod Hints
 pub mod Debugged

@@ -12,7 +12,8 @@ use Rattle.wasm_index.specs.declared.index.Index.{Index}
 use Rattle.wasm_index.specs.declared.spaces.FuncSpace.{FuncSpace}
 use Rattle.wasm_index.specs.Index.{number_of}
 use Rattle.module_customs.specs.Kept.{last_at}
-use Rattle.custom_sections.specs.NameReading.{NameLists, no_names, joined, names_of_section}
+use Rattle.custom_sections.specs.NameLists.{NameLists, no_names, joined}
+use Rattle.module_customs.specs.Told.{names_told}
 use Rattle.custom_sections.specs.Views.{text_of}
 use Rattle.init_plan.specs.declared.debug_info.NameSection.{NameSection}
 use Rattle.module_customs.specs.declared.names.DeclaredNames.{DeclaredNames}
@@ -32,7 +33,7 @@ contents_of title _ = None
 
 -- what the contents of a name section give, with the names of locals where the caller requires them
 abbrev pub names_in : Bool → Option (List ℕ) → NameLists
-names_in locals (Some bytes) = names_of_section locals bytes
+names_in locals (Some bytes) = names_told locals bytes
 names_in locals None = no_names
 
 -- what belongs to indices below a bound

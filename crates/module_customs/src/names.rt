@@ -9,7 +9,7 @@ ghost use Rattle.form_data.specs.Views.{import_of};
 ghost use Rattle.form_lists.specs.Source.{source_module};
 ghost use Rattle.form_lists.specs.Singles.{single_of};
 ghost use Rattle.wasm_index.specs.Index.{number_of};
-ghost use Rattle.custom_sections.specs.NameReading.{NameLists, joined};
+ghost use Rattle.custom_sections.specs.NameLists.{NameLists, joined};
 ghost use Rattle.custom_sections.specs.Views.{text_of, locals_of, names_of};
 ghost use Rattle.module_customs.specs.Names.{functions_among, one_if, contents_of, names_in, names_below, below, module_names, at_number, named, names_left, HasLast, HasLocals, KeepsNames};
 
@@ -53,6 +53,7 @@ pub fn kept_names<'d>(
 }
 
 /// Adds the names of a section before which `declared` functions are declared.
+#[tactic(auto, using(crate::proofs::AsTold::names_as_told))]
 fn add_section<'d>(
     alloc: Global,
     kept: &mut NameSection<'d>,

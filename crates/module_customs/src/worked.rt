@@ -2,7 +2,7 @@
 
 ghost use Rattle.std.specs.Prelude.{◌≡◌, [], ◌∷◌, codes, Some, None, true, false};
 ghost use Rattle.module_customs.specs.Kept.{last_at, kept_hint};
-ghost use Rattle.custom_sections.specs.NameReading.{no_names};
+ghost use Rattle.custom_sections.specs.NameLists.{no_names};
 ghost use Rattle.module_customs.specs.Hints.{module_hints};
 ghost use Rattle.module_customs.specs.Names.{module_names};
 ghost use Rattle.module_customs.specs.Worked.{one_import, named, hinted};

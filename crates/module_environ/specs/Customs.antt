@@ -7,7 +7,7 @@ use Rattle.wasm_spec.specs.Module as plain
 use Rattle.rule_spec.specs.Lists.{lists_of_module}
 use Rattle.wasm_types.specs.declared.tunables.Tunables.{Tunables}
 use Rattle.module_customs.specs.Kept.{kept_hint}
-use Rattle.custom_sections.specs.NameReading.{NameLists}
+use Rattle.custom_sections.specs.NameLists.{NameLists}
 use Rattle.module_customs.specs.Names.{module_names, KeepsNames}
 use Rattle.module_customs.specs.Hints.{HintLists, module_hints, branch_hint_of}
 use Rattle.module_customs.specs.Debugged.{is_debug_section}

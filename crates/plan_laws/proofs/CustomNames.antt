@@ -1,12 +1,13 @@
 -- The names that the name sections of a module give have no more bytes than its custom sections.
-use Rattle.std.proofs.Common.{◌≤◌, ◌+◌, ℕ, Bool, true, false, List, [], ◌∷◌, ◌++◌, length, Option, Some, None, sum_by, arith}
+use Rattle.std.proofs.Common.{◌≤◌, ◌+◌, ℕ, Bool, true, false, List, [], ◌∷◌, ◌++◌, length, Option, Some, None, sum_by, sym, subst, arith}
 use Rattle.std.specs.Prelude.{codes, nat_lt, if◌then◌else◌}
 use Rattle.std.specs.Str.{bytes_eq}
 use Rattle.std.proofs.lemmas.List.Sums.{sum_by-cons}
 use Rattle.wasm_spec.specs.Module as plain
 use Rattle.wasm_spec.specs.Module.{Payload, Custom}
-use Rattle.custom_sections.specs.NameReading.{NameLists}
+use Rattle.custom_sections.specs.NameLists.{NameLists}
 use Rattle.module_customs.specs.Names.{contents_of, names_in, names_below, names_behind, names_after, module_names}
+use Rattle.module_customs.proofs.AsTold.{names_as_told}
 use Rattle.plan_laws.proofs.ModuleContents.{custom_bytes}
 use Rattle.plan_laws.proofs.NameBytes.{entry_bytes, names_bytes, joined-few, section-few}
 use Rattle.plan_laws.proofs.SumLaws.{if_any, sum-filtered}
@@ -20,7 +21,8 @@ contents-few title p = omega arith
 
 given-few : (locals : Bool) (contents : Option (List ℕ)) → names_bytes (names_in locals contents) ≤ if_any length contents
 given-few locals None = omega arith
-given-few locals (Some bytes) = section-few locals bytes
+given-few locals (Some bytes) =
+    subst (λ (names : NameLists). names_bytes names ≤ length bytes) (sym (names_as_told locals bytes)) (section-few locals bytes)
 
 below-few : (bound : ℕ) (names : NameLists) → names_bytes (names_below bound names) ≤ names_bytes names
 below-few bound names = omega (arith, sum-filtered entry_bytes (λ e. nat_lt e.0 bound) names.functions)

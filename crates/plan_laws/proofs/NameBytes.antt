@@ -12,7 +12,8 @@ use Rattle.form_reader.specs.Agrees.{Agrees, gives_agrees, then_agrees, step_ok,
 use Rattle.form_reader.specs.NumberLaws.{unsigned_agrees, counted_bytes_agree}
 use Rattle.form_reader.specs.SectionRows.{name_agrees}
 use Rattle.custom_sections.specs.NameGrammar.{naming}
-use Rattle.custom_sections.specs.NameReading.{NameLists, no_names, joined, go_on, list_of, elements_before, counted_before, vector_before, naming_at, naming_before, names_before, one_or_none, locals_before, module_named, functions_named, locals_named, subsection, sized_subsection_at, subsection_then, go_on_names, subsections_before, names_of_section}
+use Rattle.custom_sections.specs.NameLists.{NameLists, no_names, joined}
+use Rattle.custom_sections.specs.NameReading.{go_on, list_of, elements_before, counted_before, vector_before, naming_at, naming_before, names_before, one_or_none, locals_before, module_named, functions_named, locals_named, subsection, sized_subsection_at, subsection_then, go_on_names, subsections_before, names_of_section}
 
 -- ---- what is spelled has bytes
 

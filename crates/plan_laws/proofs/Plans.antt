@@ -33,7 +33,7 @@ use Rattle.gc_layout.specs.Objects.{gc_layout_of}
 use Rattle.table_images.specs.Steps.{images_of}
 use Rattle.table_images.specs.Views.{image_of, initial_of, active_elements_of, planned_tables_of}
 use Rattle.table_images.proofs.Tables.{planned-initials}
-use Rattle.custom_sections.specs.NameReading.{NameLists}
+use Rattle.custom_sections.specs.NameLists.{NameLists}
 use Rattle.init_plan.specs.declared.translation.ModuleTranslation.{ModuleTranslation}
 use Rattle.init_plan.specs.Startup.{startup_with}
 use Rattle.init_plan.specs.Tables.{own_tables, plan_of_tables}

@@ -1,6 +1,7 @@
 use Rattle.std.proofs.Common.{arith, ◌≡◌, ◌-◌, ◌+◌, length, sym, ◌∙◌, subst}
 use Rattle.custom_sections.specs.Views.{names_of}
-use Rattle.custom_sections.specs.NameReading.{NameLists, names_of_section}
+use Rattle.custom_sections.specs.NameLists.{NameLists}
+use Rattle.custom_sections.specs.NameReading.{names_of_section}
 use Rattle.custom_sections.proofs.Joining.{still_named, at_start, more, ends, none, is_done}
 use Rattle.custom_sections.proofs.names.read_names.Goals as goal
 
