@@ -68,11 +68,7 @@ fn refusal_of(alloc: Global, case: &Case, bytes: &[u8]) -> Result<Option<Refusal
 }
 
 /// What makes the bytes too large to be planned with these words, where something does.
-fn excess_of(
-    alloc: Global,
-    words: &[String],
-    bytes: &[u8],
-) -> Result<Option<Excess>, OutOfMemory> {
+fn excess_of(alloc: Global, words: &[String], bytes: &[u8]) -> Result<Option<Excess>, OutOfMemory> {
     match read_words(words) {
         Some(command) => locate_excess(
             alloc,
