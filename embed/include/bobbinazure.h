@@ -530,99 +530,136 @@ typedef struct {
 
 /* An imported function. */
 typedef struct {
-    uint32_t size;       /* Its size. */
-    uint32_t wasm_call;  /* The pointer to its code for calls from compiled code. */
-    uint32_t array_call; /* The pointer to its code for calls with an array of values. */
-    uint32_t vmctx;      /* The pointer to its context. */
+    uint32_t size;            /* Its size. */
+    uint32_t wasm_call;       /* The pointer to its code for calls from compiled code. */
+    uint32_t wasm_call_size;  /* The size of wasm_call. */
+    uint32_t array_call;      /* The pointer to its code for calls with an array of values. */
+    uint32_t array_call_size; /* The size of array_call. */
+    uint32_t vmctx;           /* The pointer to its context. */
+    uint32_t vmctx_size;      /* The size of vmctx. */
 } bobbinazure_function_import_layout;
 
 /* An imported table. */
 typedef struct {
-    uint32_t size;  /* Its size. */
-    uint32_t from;  /* The pointer to its definition. */
-    uint32_t vmctx; /* The pointer to the context that has it. */
-    uint32_t index; /* Its index in that context. */
+    uint32_t size;       /* Its size. */
+    uint32_t from;       /* The pointer to its definition. */
+    uint32_t from_size;  /* The size of from. */
+    uint32_t vmctx;      /* The pointer to the context that has it. */
+    uint32_t vmctx_size; /* The size of vmctx. */
+    uint32_t index;      /* Its index in that context. */
+    uint32_t index_size; /* The size of index. */
 } bobbinazure_table_import_layout;
 
 /* An imported memory. */
 typedef struct {
-    uint32_t size;  /* Its size. */
-    uint32_t from;  /* The pointer to its definition. */
-    uint32_t vmctx; /* The pointer to the context that has it. */
-    uint32_t index; /* Its index in that context. */
+    uint32_t size;       /* Its size. */
+    uint32_t from;       /* The pointer to its definition. */
+    uint32_t from_size;  /* The size of from. */
+    uint32_t vmctx;      /* The pointer to the context that has it. */
+    uint32_t vmctx_size; /* The size of vmctx. */
+    uint32_t index;      /* Its index in that context. */
+    uint32_t index_size; /* The size of index. */
 } bobbinazure_memory_import_layout;
 
 /* An imported tag. */
 typedef struct {
-    uint32_t size;  /* Its size. */
-    uint32_t from;  /* The pointer to its definition. */
-    uint32_t vmctx; /* The pointer to the context that has it. */
-    uint32_t index; /* Its index in that context. */
+    uint32_t size;       /* Its size. */
+    uint32_t from;       /* The pointer to its definition. */
+    uint32_t from_size;  /* The size of from. */
+    uint32_t vmctx;      /* The pointer to the context that has it. */
+    uint32_t vmctx_size; /* The size of vmctx. */
+    uint32_t index;      /* Its index in that context. */
+    uint32_t index_size; /* The size of index. */
 } bobbinazure_tag_import_layout;
 
 /* An imported global. */
 typedef struct {
-    uint32_t size;  /* Its size. */
-    uint32_t from;  /* The pointer to its definition. */
-    uint32_t vmctx; /* The pointer to the context that has it. */
-    uint32_t kind;  /* What that context is, a number of 32 bits and a payload of 32 bits. */
+    uint32_t size;       /* Its size. */
+    uint32_t from;       /* The pointer to its definition. */
+    uint32_t from_size;  /* The size of from. */
+    uint32_t vmctx;      /* The pointer to the context that has it. */
+    uint32_t vmctx_size; /* The size of vmctx. */
+    uint32_t kind;       /* What that context is, a number of 32 bits and a payload of 32 bits. */
+    uint32_t kind_size;  /* The size of kind. */
 } bobbinazure_global_import_layout;
 
 /* A memory. */
 typedef struct {
-    uint32_t size;           /* Its size. */
-    uint32_t base;           /* The pointer to its first byte. */
-    uint32_t current_length; /* The number of its bytes, as wide as a pointer. */
+    uint32_t size;                /* Its size. */
+    uint32_t base;                /* The pointer to its first byte. */
+    uint32_t base_size;           /* The size of base. */
+    uint32_t current_length;      /* The number of its bytes, as wide as a pointer. */
+    uint32_t current_length_size; /* The size of current_length. */
 } bobbinazure_memory_definition_layout;
 
 /* A table. */
 typedef struct {
-    uint32_t size;             /* Its size. */
-    uint32_t base;             /* The pointer to its first cell. */
-    uint32_t current_elements; /* The number of its cells, as wide as a pointer. */
+    uint32_t size;                  /* Its size. */
+    uint32_t base;                  /* The pointer to its first cell. */
+    uint32_t base_size;             /* The size of base. */
+    uint32_t current_elements;      /* The number of its cells, as wide as a pointer. */
+    uint32_t current_elements_size; /* The size of current_elements. */
 } bobbinazure_table_definition_layout;
 
 /* A global. */
 typedef struct {
-    uint32_t size;    /* Its size. */
-    uint32_t storage; /* Its value, in 16 bytes. */
+    uint32_t size;         /* Its size. */
+    uint32_t storage;      /* Its value, in 16 bytes. */
+    uint32_t storage_size; /* The size of storage. */
 } bobbinazure_global_definition_layout;
 
 /* A tag. */
 typedef struct {
-    uint32_t size;       /* Its size. */
-    uint32_t type_index; /* Its type, by the index of the engine. */
+    uint32_t size;            /* Its size. */
+    uint32_t type_index;      /* Its type, by the index of the engine. */
+    uint32_t type_index_size; /* The size of type_index. */
 } bobbinazure_tag_definition_layout;
 
 /* A reference to a function. */
 typedef struct {
-    uint32_t size;       /* Its size. */
-    uint32_t array_call; /* The pointer to its code for calls with an array of values. */
-    uint32_t wasm_call;  /* The pointer to its code for calls from compiled code. */
-    uint32_t type_index; /* Its type, by the index of the engine. */
-    uint32_t vmctx;      /* The pointer to its context. */
+    uint32_t size;            /* Its size. */
+    uint32_t array_call;      /* The pointer to its code for calls with an array of values. */
+    uint32_t array_call_size; /* The size of array_call. */
+    uint32_t wasm_call;       /* The pointer to its code for calls from compiled code. */
+    uint32_t wasm_call_size;  /* The size of wasm_call. */
+    uint32_t type_index;      /* Its type, by the index of the engine. */
+    uint32_t type_index_size; /* The size of type_index. */
+    uint32_t vmctx;           /* The pointer to its context. */
+    uint32_t vmctx_size;      /* The size of vmctx. */
 } bobbinazure_func_ref_layout;
 
 /* The context of a store. */
 typedef struct {
-    uint32_t size;           /* Its size. */
-    uint32_t fuel_consumed;  /* The fuel that was consumed. */
-    uint32_t epoch_deadline; /* The deadline, a number of epochs. */
-    uint32_t stack_limit;    /* The limit of the stack. */
-    uint32_t gc_heap;        /* The memory of the collected heap, as memory_definition. */
+    uint32_t size;                              /* Its size. */
+    uint32_t fuel_consumed;                     /* The fuel that was consumed. */
+    uint32_t fuel_consumed_size;                /* The size of fuel_consumed. */
+    uint32_t epoch_deadline;                    /* The deadline, a number of epochs. */
+    uint32_t epoch_deadline_size;               /* The size of epoch_deadline. */
+    uint32_t stack_limit;                       /* The limit of the stack. */
+    uint32_t stack_limit_size;                  /* The size of stack_limit. */
+    /* The memory of the collected heap, as memory_definition. */
+    uint32_t gc_heap;
+    uint32_t gc_heap_size;                      /* The size of gc_heap. */
     /* The frame pointer of the last trampoline out of compiled code. */
     uint32_t last_wasm_exit_trampoline_fp;
+    uint32_t last_wasm_exit_trampoline_fp_size; /* The size of last_wasm_exit_trampoline_fp. */
 } bobbinazure_store_context_layout;
 
 /* The part of a context that each module has. */
 typedef struct {
-    uint32_t size;              /* Where what depends on the module begins. */
-    uint32_t magic;             /* The number by which a context is recognised. */
-    uint32_t store_context;     /* The pointer to the context of the store. */
-    uint32_t builtin_functions; /* The pointer to the built-in functions. */
-    uint32_t epoch_ptr;         /* The pointer to the current epoch. */
-    uint32_t gc_heap_data;      /* The pointer to the data of the collector. */
-    uint32_t type_ids;          /* The pointer to the indices of the types. */
+    uint32_t size;                   /* Where what depends on the module begins. */
+    uint32_t magic;                  /* The number by which a context is recognised. */
+    uint32_t magic_size;             /* The size of magic. */
+    uint32_t store_context;          /* The pointer to the context of the store. */
+    uint32_t store_context_size;     /* The size of store_context. */
+    uint32_t builtin_functions;      /* The pointer to the built-in functions. */
+    uint32_t builtin_functions_size; /* The size of builtin_functions. */
+    uint32_t epoch_ptr;              /* The pointer to the current epoch. */
+    uint32_t epoch_ptr_size;         /* The size of epoch_ptr. */
+    uint32_t gc_heap_data;           /* The pointer to the data of the collector. */
+    uint32_t gc_heap_data_size;      /* The size of gc_heap_data. */
+    uint32_t type_ids;               /* The pointer to the indices of the types. */
+    uint32_t type_ids_size;          /* The size of type_ids. */
 } bobbinazure_static_context_layout;
 
 /* The structs that compiled code reads. */
@@ -677,6 +714,8 @@ typedef struct {
 
 /* The body of a function. */
 typedef struct {
+    /* Its bytes, which follow its size: its locals, then its code. A part of the module's bytes. */
+    bobbinazure_bytes bytes;
     /* Its code, behind its locals, up to the end of the body: a part of the module's bytes. */
     bobbinazure_bytes code;
     bobbinazure_span locals; /* Its locals, a part of locals. */
