@@ -1051,6 +1051,32 @@ static inline const bobbinazure_layout *bobbinazure_layout_of(const bobbinazure_
     return low < plan->layouts.len && plan->layouts.at[low].type == type ? &plan->layouts.at[low] : 0;
 }
 
+/* The passive element segment at this index in the element section, which table.init and elem.drop name:
+ * its place in `passive_elements` and `passive_items`. BOBBINAZURE_NONE where that segment is not passive. */
+static inline uint32_t bobbinazure_passive_elements_of(const bobbinazure_plan *plan, uint32_t segment) {
+    size_t low = 0, high = plan->passive_segments.len;
+    while (low < high) {
+        size_t middle = low + (high - low) / 2;
+        if (plan->passive_segments.at[middle].segment < segment) low = middle + 1;
+        else high = middle;
+    }
+    if (low == plan->passive_segments.len || plan->passive_segments.at[low].segment != segment) return BOBBINAZURE_NONE;
+    return plan->passive_segments.at[low].passive;
+}
+
+/* The runtime data of the passive data segment at this index in the data section, which memory.init and
+ * data.drop name. BOBBINAZURE_NONE where that segment is not passive, and where it has no bytes. */
+static inline uint32_t bobbinazure_passive_data_of(const bobbinazure_plan *plan, uint32_t segment) {
+    size_t low = 0, high = plan->passive.len;
+    while (low < high) {
+        size_t middle = low + (high - low) / 2;
+        if (plan->passive.at[middle].segment < segment) low = middle + 1;
+        else high = middle;
+    }
+    if (low == plan->passive.len || plan->passive.at[low].segment != segment) return BOBBINAZURE_NONE;
+    return plan->passive.at[low].runtime;
+}
+
 /* The options of the program without a word of the command line. */
 static inline bobbinazure_options bobbinazure_options_init(void) {
     bobbinazure_options options = {0, 0, 0, 0, 0, 8, 0, 4096, 1048576};

@@ -6,6 +6,10 @@ use crate::types::{RefType, StorageType};
 use std::fmt;
 
 /// An entity, by its kind and its index.
+///
+/// ```
+/// assert_eq!(bobbinazure::EntityIndex::Memory(0).to_string(), "memory 0");
+/// ```
 #[derive(Clone, Copy, Debug, PartialEq, Eq, Hash)]
 pub enum EntityIndex {
     /// A function.
@@ -45,6 +49,12 @@ impl fmt::Display for EntityIndex {
 }
 
 /// An import (core specification, 2.5, imports). It displays as `"env" "memory" memory 0`.
+///
+/// ```
+/// use bobbinazure::{EntityIndex, Import};
+/// let import = Import { module: "env", name: "memory", index: EntityIndex::Memory(0) };
+/// assert_eq!(import.to_string(), r#""env" "memory" memory 0"#);
+/// ```
 #[derive(Clone, Copy, Debug, PartialEq, Eq, Hash)]
 pub struct Import<'p> {
     /// The name of the module that it comes from.
@@ -62,6 +72,11 @@ impl fmt::Display for Import<'_> {
 }
 
 /// An export (core specification, 2.5, exports). It displays as `"memory" memory 0`.
+///
+/// ```
+/// use bobbinazure::{EntityIndex, Export};
+/// assert_eq!(Export { name: "memory", index: EntityIndex::Memory(0) }.to_string(), r#""memory" memory 0"#);
+/// ```
 #[derive(Clone, Copy, Debug, PartialEq, Eq, Hash)]
 pub struct Export<'p> {
     /// Its name, which no other export has.
@@ -77,6 +92,15 @@ impl fmt::Display for Export<'_> {
 }
 
 /// A function, imported or defined.
+///
+/// ```
+/// # let bytes = std::fs::read(concat!(env!("CARGO_MANIFEST_DIR"), "/../../examples/linked.wasm"))?;
+/// # let options = bobbinazure::Options { cow: true, lazy_tables: true, ..Default::default() };
+/// # let plan = bobbinazure::Plan::new(&bytes, &options)?;
+/// let add = plan.function(1).unwrap();
+/// assert_eq!((add.imported, add.signature, add.func_ref), (false, 1, Some(1)));
+/// # Ok::<(), Box<dyn std::error::Error>>(())
+/// ```
 #[derive(Clone, Copy, Debug, PartialEq, Eq, Hash)]
 pub struct Function {
     /// Its index.
@@ -91,11 +115,22 @@ pub struct Function {
 
 impl Memory {
     /// The greatest size in pages, if it has one.
+    ///
+    /// ```
+    /// # use bobbinazure::Memory;
+    /// assert_eq!(Memory { maximum: 3, ..Default::default() }.max(), Some(3));
+    /// assert_eq!(Memory { maximum: u64::MAX, ..Default::default() }.max(), None);
+    /// ```
     pub fn max(&self) -> Option<u64> {
         (self.maximum != u64::MAX).then_some(self.maximum)
     }
 
     /// The bytes of a page.
+    ///
+    /// ```
+    /// # use bobbinazure::Memory;
+    /// assert_eq!(Memory { page_size_log2: 16, ..Default::default() }.page_size(), 65536);
+    /// ```
     pub fn page_size(&self) -> u64 {
         1 << self.page_size_log2
     }
@@ -130,6 +165,13 @@ impl Memory {
     }
 
     /// The size in bytes of a memory that neither grows nor shrinks.
+    ///
+    /// ```
+    /// # use bobbinazure::Memory;
+    /// let memory = Memory { minimum: 2, maximum: 2, page_size_log2: 16, ..Default::default() };
+    /// assert_eq!(memory.static_heap_size(), Some(131072));
+    /// assert_eq!(Memory { maximum: 3, ..memory }.static_heap_size(), None);
+    /// ```
     pub fn static_heap_size(&self) -> Option<u64> {
         self.minimum_byte_size().filter(|minimum| self.maximum_byte_size() == Some(*minimum))
     }
@@ -137,11 +179,24 @@ impl Memory {
 
 impl Table {
     /// The greatest size in cells, if it has one.
+    ///
+    /// ```
+    /// # use bobbinazure::Table;
+    /// assert_eq!(Table { maximum: 3, ..Default::default() }.max(), Some(3));
+    /// ```
     pub fn max(&self) -> Option<u64> {
         (self.maximum != u64::MAX).then_some(self.maximum)
     }
 
     /// The type of its elements.
+    ///
+    /// ```
+    /// # let bytes = std::fs::read(concat!(env!("CARGO_MANIFEST_DIR"), "/../../examples/linked.wasm"))?;
+    /// # let options = bobbinazure::Options { cow: true, lazy_tables: true, ..Default::default() };
+    /// # let plan = bobbinazure::Plan::new(&bytes, &options)?;
+    /// assert!(plan.tables()[0].ref_type().nullable);
+    /// # Ok::<(), Box<dyn std::error::Error>>(())
+    /// ```
     pub fn ref_type(&self) -> RefType {
         self.element.into()
     }
@@ -149,11 +204,27 @@ impl Table {
 
 impl Global {
     /// The type of its value.
+    ///
+    /// ```
+    /// # let bytes = std::fs::read(concat!(env!("CARGO_MANIFEST_DIR"), "/../../examples/linked.wasm"))?;
+    /// # let options = bobbinazure::Options { cow: true, lazy_tables: true, ..Default::default() };
+    /// # let plan = bobbinazure::Plan::new(&bytes, &options)?;
+    /// assert_eq!(plan.globals()[0].ty(), bobbinazure::ValType::I32.into());
+    /// # Ok::<(), Box<dyn std::error::Error>>(())
+    /// ```
     pub fn ty(&self) -> StorageType {
         self.value.into()
     }
 
     /// Whether it can be written.
+    ///
+    /// ```
+    /// # let bytes = std::fs::read(concat!(env!("CARGO_MANIFEST_DIR"), "/../../examples/linked.wasm"))?;
+    /// # let options = bobbinazure::Options { cow: true, lazy_tables: true, ..Default::default() };
+    /// # let plan = bobbinazure::Plan::new(&bytes, &options)?;
+    /// assert!(plan.globals()[0].mutability()); // the stack pointer
+    /// # Ok::<(), Box<dyn std::error::Error>>(())
+    /// ```
     pub fn mutability(&self) -> bool {
         self.writable != 0
     }

@@ -38,6 +38,7 @@ mod plan;
 mod records;
 mod rows;
 mod sections;
+mod segments;
 mod startup;
 mod types;
 
@@ -57,9 +58,8 @@ pub use rows::{
     TableImportLayout, Tag, TagDefinitionLayout, TagImportLayout, Trampoline, Value,
 };
 pub use sections::{Section, sections};
-pub use startup::{
-    DataSegment, ElementSegment, Expressions, GlobalInit, Items, MemoryImage, ModuleStartup, PassiveData, PassiveElements, Region, SegmentOffset,
-};
+pub use segments::{ElementSegment, Expressions, Items, PassiveData, PassiveElements};
+pub use startup::{DataSegment, GlobalInit, MemoryImage, ModuleStartup, Region, SegmentOffset};
 pub use types::{CompositeType, FieldType, Fields, HeapType, RefType, StorageType, SubType, TypeIndex, ValType};
 
 unsafe extern "C" {

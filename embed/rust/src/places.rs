@@ -64,6 +64,12 @@ impl fmt::Display for Place {
 /// Says where and why bytes are malformed or not supported; `None` where they are read as a module, and where there are
 /// 2^30 bytes or more. It reads the bytes once more, so it is for refused modules.
 ///
+/// ```
+/// assert_eq!(bobbinazure::locate(b"\0asm")?.unwrap().to_string(), "byte 4, the input does not begin with the header of a module");
+/// assert_eq!(bobbinazure::locate(b"\0asm\x01\0\0\0")?, None);
+/// # Ok::<(), bobbinazure::Error>(())
+/// ```
+///
 /// # Errors
 /// No memory.
 pub fn locate(bytes: &[u8]) -> Result<Option<Place>, Error> {
@@ -91,6 +97,13 @@ fn place(record: &PlaceRecord) -> Place {
 }
 
 /// The first rule that a module breaks, where and why. It displays the offset and a sentence.
+///
+/// ```
+/// let module = b"\0asm\x01\0\0\0\x05\x04\x01\x01\x09\x03"; // a memory of 9 pages and at most 3
+/// let broken = bobbinazure::locate_rule(module)?.unwrap();
+/// assert_eq!(broken.to_string(), "byte 11, memory section, entry 0: the maximum 3 is below the minimum 9");
+/// # Ok::<(), bobbinazure::Error>(())
+/// ```
 #[derive(Clone, Debug, PartialEq, Eq, Hash)]
 pub struct BrokenRule {
     /// The rule, from 1 to 10.

@@ -34,6 +34,7 @@ fn bodies_stand_in_the_module() {
         (92..94, 93, &[0x0B][..]),
         (95..102, 101, &[0x0B][..])
     ]);
+    assert!(bodies.iter().all(|body| *body.bytes == MODULE[body.range.clone()] && body.bytes.ends_with(body.code)));
     assert_eq!(bodies[0].locals().len(), 0);
     let locals: Vec<_> = bodies[1].locals().map(|(count, ty)| format!("{count} {ty}")).collect();
     assert_eq!(locals, ["3 i32".to_string(), format!("2 (ref null struct (module {}))", plan.declared_types()[1])]);
@@ -54,6 +55,9 @@ fn element_segments_have_their_items() {
     let passive: Vec<_> = plan.passive_elements().map(|segment| told(segment.items)).collect();
     assert_eq!(passive, [vec!["ref.null func".to_string(), "ref.func 1".into()], vec!["func 0".into()]]);
     assert_eq!(plan.passive_elem_map().collect::<Vec<_>>(), [(1, 0), (3, 1)]);
+    let by_segment: Vec<_> = (0..5).map(|segment| plan.passive_elements_of(segment).map(|found| told(found.items))).collect();
+    assert_eq!(by_segment, [None, Some(passive[0].clone()), None, Some(passive[1].clone()), None]);
+    assert!((0..5).all(|segment| plan.passive_data_of(segment).is_none()));
 }
 
 #[test]
@@ -78,6 +82,9 @@ fn structs_are_those_of_the_target() {
         assert_eq!([of.memory_definition.size, of.table_definition.size, of.global_definition.size, of.tag_definition.size], sizes[5..9]);
         assert_eq!([of.func_ref.size, of.store_context.size, of.static_context.size], sizes[9..]);
         assert_eq!([of.func_ref.array_call, of.func_ref.wasm_call, of.func_ref.vmctx], [0, u32::from(pointer), 3 * u32::from(pointer)]);
+        assert_eq!([of.func_ref.vmctx_size, of.func_ref.type_index_size, of.static_context.magic_size], [u32::from(pointer), 4, 4]);
+        assert_eq!([of.global_import.kind_size, of.global_definition.storage_size, of.store_context.epoch_deadline_size], [8, 16, 8]);
+        assert_eq!(of.store_context.gc_heap_size, of.memory_definition.size);
         let escaping = plan.regions().find(|region| region.name == "module functions").expect("it is there");
         assert_eq!(escaping.size, 2 * of.func_ref.size);
         assert_eq!(plan.startup_func_ref().is_some(), plan.startup() != bobbinazure::ModuleStartup::None);
