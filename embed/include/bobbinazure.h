@@ -338,6 +338,11 @@ typedef struct {
     uint64_t minimum;       /* The least size, in pages. */
     /* The greatest size, in pages; BOBBINAZURE_UNBOUNDED where there is none. */
     uint64_t maximum;
+    /* The least size, in bytes; BOBBINAZURE_UNBOUNDED also where it is more. */
+    uint64_t minimum_bytes;
+    /* The greatest size, in bytes, as minimum_bytes. Where there is none in pages, what
+       addresses reach, or the least size if that is more. */
+    uint64_t maximum_bytes;
     uint8_t page_size_log2; /* The page size as an exponent of 2: 0 or 16. */
     uint8_t shared;         /* Whether threads may share it. */
     uint8_t wide;           /* Whether addresses have 64 bits. */
@@ -1075,6 +1080,20 @@ static inline uint32_t bobbinazure_passive_data_of(const bobbinazure_plan *plan,
     }
     if (low == plan->passive.len || plan->passive.at[low].segment != segment) return BOBBINAZURE_NONE;
     return plan->passive.at[low].runtime;
+}
+
+/* Whether a memory may be moved as it grows, where so many bytes are reserved for it at first: not where
+ * `may_move` is 0, threads share it, it cannot grow, or all that it grows to is reserved. */
+static inline int bobbinazure_memory_may_move(const bobbinazure_memory *memory, uint64_t reservation, int may_move) {
+    return may_move && !memory->shared && memory->minimum != memory->maximum && memory->maximum_bytes > reservation;
+}
+
+/* Whether guard pages alone check the accesses to a memory, where faults in them become traps. The host's
+ * page size is an exponent of 2; the guard stands behind the reserved bytes. */
+static inline int bobbinazure_can_elide_bounds_check(const bobbinazure_memory *memory, uint64_t reservation,
+                                                     uint64_t guard_size, uint8_t host_page_size_log2) {
+    uint64_t guarded = guard_size > UINT64_MAX - reservation ? UINT64_MAX : reservation + guard_size;
+    return memory->page_size_log2 >= host_page_size_log2 && !memory->wide && guarded >= UINT64_C(4294967296);
 }
 
 /* The options of the program without a word of the command line. */

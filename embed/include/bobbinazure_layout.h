@@ -75,12 +75,14 @@ BOBBINAZURE_AT(value, heap, 2);
 BOBBINAZURE_AT(value, list, 3);
 BOBBINAZURE_AT(value, index, 4);
 
-BOBBINAZURE_SIZE(memory, 24);
+BOBBINAZURE_SIZE(memory, 40);
 BOBBINAZURE_AT(memory, minimum, 0);
 BOBBINAZURE_AT(memory, maximum, 8);
-BOBBINAZURE_AT(memory, page_size_log2, 16);
-BOBBINAZURE_AT(memory, shared, 17);
-BOBBINAZURE_AT(memory, wide, 18);
+BOBBINAZURE_AT(memory, minimum_bytes, 16);
+BOBBINAZURE_AT(memory, maximum_bytes, 24);
+BOBBINAZURE_AT(memory, page_size_log2, 32);
+BOBBINAZURE_AT(memory, shared, 33);
+BOBBINAZURE_AT(memory, wide, 34);
 
 BOBBINAZURE_SIZE(table, 32);
 BOBBINAZURE_AT(table, minimum, 0);

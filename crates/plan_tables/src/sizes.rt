@@ -12,7 +12,7 @@ const _: () = prove!(size_of::<crate::rows::Span>() == 16);
 
 const _: () = prove!(size_of::<crate::rows::ValueRow>() == 8);
 
-const _: () = prove!(size_of::<crate::rows::MemoryRow>() == 24);
+const _: () = prove!(size_of::<crate::rows::MemoryRow>() == 40);
 
 const _: () = prove!(size_of::<crate::rows::TableRow>() == 32);
 

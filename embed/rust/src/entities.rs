@@ -175,6 +175,30 @@ impl Memory {
     pub fn static_heap_size(&self) -> Option<u64> {
         self.minimum_byte_size().filter(|minimum| self.maximum_byte_size() == Some(*minimum))
     }
+
+    /// Whether the memory may be moved as it grows, where so many bytes are reserved for it at first: not where the host says that it may not, nor where
+    /// threads share it, where it cannot grow, or where all that it grows to is reserved.
+    ///
+    /// ```
+    /// # use bobbinazure::Memory;
+    /// let memory = Memory { minimum: 1, maximum: 4, page_size_log2: 16, ..Default::default() };
+    /// assert!(memory.memory_may_move(65536, true) && !memory.memory_may_move(4 << 16, true));
+    /// ```
+    pub fn memory_may_move(&self, reservation: u64, may_move: bool) -> bool {
+        may_move && !self.shared && self.max() != Some(self.minimum) && self.maximum_byte_size().unwrap_or(u64::MAX) > reservation
+    }
+
+    /// Whether guard pages alone check the accesses, for a host whose faults become traps: its page size is an exponent of 2, and so many bytes are reserved,
+    /// with the guard behind them.
+    ///
+    /// ```
+    /// # use bobbinazure::Memory;
+    /// let memory = Memory { minimum: 1, maximum: 4, page_size_log2: 16, ..Default::default() };
+    /// assert!(memory.can_elide_bounds_check(1 << 32, 0, 12) && !memory.can_elide_bounds_check(1 << 31, 65536, 12));
+    /// ```
+    pub fn can_elide_bounds_check(&self, reservation: u64, guard_size: u64, host_page_size_log2: u8) -> bool {
+        self.page_size_log2 >= host_page_size_log2 && !self.wide && reservation.saturating_add(guard_size) >= 1 << 32
+    }
 }
 
 impl Table {

@@ -72,12 +72,14 @@ laid_out! {
         list 3,
         index 4,
     }
-    Memory: 24 {
+    Memory: 40 {
         minimum 0,
         maximum 8,
-        page_size_log2 16,
-        shared 17,
-        wide 18,
+        minimum_bytes 16,
+        maximum_bytes 24,
+        page_size_log2 32,
+        shared 33,
+        wide 34,
     }
     Table: 32 {
         minimum 0,

@@ -91,3 +91,15 @@ fn structs_are_those_of_the_target() {
     }
     assert_eq!((numbers::HEAP_DECLARED, numbers::OF_SECTION), (19, 4));
 }
+
+#[test]
+fn memories_have_their_sizes_in_bytes() {
+    let module = b"\0asm\x01\0\0\0\x05\x06\x02\x01\x01\x03\x04\x02"; // (memory 1 3) (memory i64 2)
+    let plan = Plan::new(module, &Options::default()).expect("it is planned");
+    for memory in plan.memories() {
+        assert_eq!(memory.minimum_byte_size(), Some(memory.minimum_bytes));
+        assert_eq!(memory.maximum_byte_size(), Some(memory.maximum_bytes));
+    }
+    let bytes: Vec<_> = plan.memories().iter().map(|memory| (memory.minimum_bytes, memory.maximum_bytes)).collect();
+    assert_eq!(bytes, [(1 << 16, 3 << 16), (2 << 16, 0u64.wrapping_sub(1 << 16))]);
+}
