@@ -48,7 +48,7 @@ pub struct ElementSegment<'p> {
 /// ```
 /// # let module = b"\0asm\x01\0\0\0\x09\x04\x01\x01\0\0";
 /// let plan = bobbinazure::Plan::new(module, &Default::default())?; // (module (elem func))
-/// assert_eq!(plan.passive_elements_of(0).unwrap().element.to_string(), "(ref func)");
+/// assert_eq!(plan.passive_elements_of(0).unwrap().element.to_string(), "funcref");
 /// # Ok::<(), bobbinazure::Error>(())
 /// ```
 #[derive(Clone, Copy, Debug, PartialEq, Eq, Hash)]
