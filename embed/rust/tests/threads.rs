@@ -4,7 +4,7 @@ use bobbinazure::{Options, Plan, link, locate, locate_rule, sections, text};
 use std::thread;
 
 const THREADS: usize = 8;
-const ROUNDS: usize = 50;
+const ROUNDS: usize = 10;
 
 fn example(name: &str) -> Vec<u8> {
     std::fs::read(format!("{}/../../examples/{name}.wasm", env!("CARGO_MANIFEST_DIR"))).expect("the example is there")
