@@ -351,6 +351,11 @@ typedef struct {
     uint64_t minimum;       /* The least size, in pages. */
     /* The greatest size, in pages; BOBBINAZURE_UNBOUNDED where there is none. */
     uint64_t maximum;
+    /* The least size, in bytes; BOBBINAZURE_UNBOUNDED also where it is more. */
+    uint64_t minimum_bytes;
+    /* The greatest size, in bytes, as minimum_bytes. Where there is none in pages, what
+       addresses reach, or the least size if that is more. */
+    uint64_t maximum_bytes;
     uint8_t page_size_log2; /* The page size as an exponent of 2: 0 or 16. */
     uint8_t shared;         /* Whether threads may share it. */
     uint8_t wide;           /* Whether addresses have 64 bits. */
@@ -543,99 +548,136 @@ typedef struct {
 
 /* An imported function. */
 typedef struct {
-    uint32_t size;       /* Its size. */
-    uint32_t wasm_call;  /* The pointer to its code for calls from compiled code. */
-    uint32_t array_call; /* The pointer to its code for calls with an array of values. */
-    uint32_t vmctx;      /* The pointer to its context. */
+    uint32_t size;            /* Its size. */
+    uint32_t wasm_call;       /* The pointer to its code for calls from compiled code. */
+    uint32_t wasm_call_size;  /* The size of wasm_call. */
+    uint32_t array_call;      /* The pointer to its code for calls with an array of values. */
+    uint32_t array_call_size; /* The size of array_call. */
+    uint32_t vmctx;           /* The pointer to its context. */
+    uint32_t vmctx_size;      /* The size of vmctx. */
 } bobbinazure_function_import_layout;
 
 /* An imported table. */
 typedef struct {
-    uint32_t size;  /* Its size. */
-    uint32_t from;  /* The pointer to its definition. */
-    uint32_t vmctx; /* The pointer to the context that has it. */
-    uint32_t index; /* Its index in that context. */
+    uint32_t size;       /* Its size. */
+    uint32_t from;       /* The pointer to its definition. */
+    uint32_t from_size;  /* The size of from. */
+    uint32_t vmctx;      /* The pointer to the context that has it. */
+    uint32_t vmctx_size; /* The size of vmctx. */
+    uint32_t index;      /* Its index in that context. */
+    uint32_t index_size; /* The size of index. */
 } bobbinazure_table_import_layout;
 
 /* An imported memory. */
 typedef struct {
-    uint32_t size;  /* Its size. */
-    uint32_t from;  /* The pointer to its definition. */
-    uint32_t vmctx; /* The pointer to the context that has it. */
-    uint32_t index; /* Its index in that context. */
+    uint32_t size;       /* Its size. */
+    uint32_t from;       /* The pointer to its definition. */
+    uint32_t from_size;  /* The size of from. */
+    uint32_t vmctx;      /* The pointer to the context that has it. */
+    uint32_t vmctx_size; /* The size of vmctx. */
+    uint32_t index;      /* Its index in that context. */
+    uint32_t index_size; /* The size of index. */
 } bobbinazure_memory_import_layout;
 
 /* An imported tag. */
 typedef struct {
-    uint32_t size;  /* Its size. */
-    uint32_t from;  /* The pointer to its definition. */
-    uint32_t vmctx; /* The pointer to the context that has it. */
-    uint32_t index; /* Its index in that context. */
+    uint32_t size;       /* Its size. */
+    uint32_t from;       /* The pointer to its definition. */
+    uint32_t from_size;  /* The size of from. */
+    uint32_t vmctx;      /* The pointer to the context that has it. */
+    uint32_t vmctx_size; /* The size of vmctx. */
+    uint32_t index;      /* Its index in that context. */
+    uint32_t index_size; /* The size of index. */
 } bobbinazure_tag_import_layout;
 
 /* An imported global. */
 typedef struct {
-    uint32_t size;  /* Its size. */
-    uint32_t from;  /* The pointer to its definition. */
-    uint32_t vmctx; /* The pointer to the context that has it. */
-    uint32_t kind;  /* What that context is, a number of 32 bits and a payload of 32 bits. */
+    uint32_t size;       /* Its size. */
+    uint32_t from;       /* The pointer to its definition. */
+    uint32_t from_size;  /* The size of from. */
+    uint32_t vmctx;      /* The pointer to the context that has it. */
+    uint32_t vmctx_size; /* The size of vmctx. */
+    uint32_t kind;       /* What that context is, a number of 32 bits and a payload of 32 bits. */
+    uint32_t kind_size;  /* The size of kind. */
 } bobbinazure_global_import_layout;
 
 /* A memory. */
 typedef struct {
-    uint32_t size;           /* Its size. */
-    uint32_t base;           /* The pointer to its first byte. */
-    uint32_t current_length; /* The number of its bytes, as wide as a pointer. */
+    uint32_t size;                /* Its size. */
+    uint32_t base;                /* The pointer to its first byte. */
+    uint32_t base_size;           /* The size of base. */
+    uint32_t current_length;      /* The number of its bytes, as wide as a pointer. */
+    uint32_t current_length_size; /* The size of current_length. */
 } bobbinazure_memory_definition_layout;
 
 /* A table. */
 typedef struct {
-    uint32_t size;             /* Its size. */
-    uint32_t base;             /* The pointer to its first cell. */
-    uint32_t current_elements; /* The number of its cells, as wide as a pointer. */
+    uint32_t size;                  /* Its size. */
+    uint32_t base;                  /* The pointer to its first cell. */
+    uint32_t base_size;             /* The size of base. */
+    uint32_t current_elements;      /* The number of its cells, as wide as a pointer. */
+    uint32_t current_elements_size; /* The size of current_elements. */
 } bobbinazure_table_definition_layout;
 
 /* A global. */
 typedef struct {
-    uint32_t size;    /* Its size. */
-    uint32_t storage; /* Its value, in 16 bytes. */
+    uint32_t size;         /* Its size. */
+    uint32_t storage;      /* Its value, in 16 bytes. */
+    uint32_t storage_size; /* The size of storage. */
 } bobbinazure_global_definition_layout;
 
 /* A tag. */
 typedef struct {
-    uint32_t size;       /* Its size. */
-    uint32_t type_index; /* Its type, by the index of the engine. */
+    uint32_t size;            /* Its size. */
+    uint32_t type_index;      /* Its type, by the index of the engine. */
+    uint32_t type_index_size; /* The size of type_index. */
 } bobbinazure_tag_definition_layout;
 
 /* A reference to a function. */
 typedef struct {
-    uint32_t size;       /* Its size. */
-    uint32_t array_call; /* The pointer to its code for calls with an array of values. */
-    uint32_t wasm_call;  /* The pointer to its code for calls from compiled code. */
-    uint32_t type_index; /* Its type, by the index of the engine. */
-    uint32_t vmctx;      /* The pointer to its context. */
+    uint32_t size;            /* Its size. */
+    uint32_t array_call;      /* The pointer to its code for calls with an array of values. */
+    uint32_t array_call_size; /* The size of array_call. */
+    uint32_t wasm_call;       /* The pointer to its code for calls from compiled code. */
+    uint32_t wasm_call_size;  /* The size of wasm_call. */
+    uint32_t type_index;      /* Its type, by the index of the engine. */
+    uint32_t type_index_size; /* The size of type_index. */
+    uint32_t vmctx;           /* The pointer to its context. */
+    uint32_t vmctx_size;      /* The size of vmctx. */
 } bobbinazure_func_ref_layout;
 
 /* The context of a store. */
 typedef struct {
-    uint32_t size;           /* Its size. */
-    uint32_t fuel_consumed;  /* The fuel that was consumed. */
-    uint32_t epoch_deadline; /* The deadline, a number of epochs. */
-    uint32_t stack_limit;    /* The limit of the stack. */
-    uint32_t gc_heap;        /* The memory of the collected heap, as memory_definition. */
+    uint32_t size;                              /* Its size. */
+    uint32_t fuel_consumed;                     /* The fuel that was consumed. */
+    uint32_t fuel_consumed_size;                /* The size of fuel_consumed. */
+    uint32_t epoch_deadline;                    /* The deadline, a number of epochs. */
+    uint32_t epoch_deadline_size;               /* The size of epoch_deadline. */
+    uint32_t stack_limit;                       /* The limit of the stack. */
+    uint32_t stack_limit_size;                  /* The size of stack_limit. */
+    /* The memory of the collected heap, as memory_definition. */
+    uint32_t gc_heap;
+    uint32_t gc_heap_size;                      /* The size of gc_heap. */
     /* The frame pointer of the last trampoline out of compiled code. */
     uint32_t last_wasm_exit_trampoline_fp;
+    uint32_t last_wasm_exit_trampoline_fp_size; /* The size of last_wasm_exit_trampoline_fp. */
 } bobbinazure_store_context_layout;
 
 /* The part of a context that each module has. */
 typedef struct {
-    uint32_t size;              /* Where what depends on the module begins. */
-    uint32_t magic;             /* The number by which a context is recognised. */
-    uint32_t store_context;     /* The pointer to the context of the store. */
-    uint32_t builtin_functions; /* The pointer to the built-in functions. */
-    uint32_t epoch_ptr;         /* The pointer to the current epoch. */
-    uint32_t gc_heap_data;      /* The pointer to the data of the collector. */
-    uint32_t type_ids;          /* The pointer to the indices of the types. */
+    uint32_t size;                   /* Where what depends on the module begins. */
+    uint32_t magic;                  /* The number by which a context is recognised. */
+    uint32_t magic_size;             /* The size of magic. */
+    uint32_t store_context;          /* The pointer to the context of the store. */
+    uint32_t store_context_size;     /* The size of store_context. */
+    uint32_t builtin_functions;      /* The pointer to the built-in functions. */
+    uint32_t builtin_functions_size; /* The size of builtin_functions. */
+    uint32_t epoch_ptr;              /* The pointer to the current epoch. */
+    uint32_t epoch_ptr_size;         /* The size of epoch_ptr. */
+    uint32_t gc_heap_data;           /* The pointer to the data of the collector. */
+    uint32_t gc_heap_data_size;      /* The size of gc_heap_data. */
+    uint32_t type_ids;               /* The pointer to the indices of the types. */
+    uint32_t type_ids_size;          /* The size of type_ids. */
 } bobbinazure_static_context_layout;
 
 /* The structs that compiled code reads. */
@@ -690,6 +732,8 @@ typedef struct {
 
 /* The body of a function. */
 typedef struct {
+    /* Its bytes, which follow its size: its locals, then its code. A part of the module's bytes. */
+    bobbinazure_bytes bytes;
     /* Its code, behind its locals, up to the end of the body: a part of the module's bytes. */
     bobbinazure_bytes code;
     bobbinazure_span locals; /* Its locals, a part of locals. */
@@ -1056,6 +1100,46 @@ static inline const bobbinazure_layout *bobbinazure_layout_of(const bobbinazure_
         else high = middle;
     }
     return low < plan->layouts.len && plan->layouts.at[low].type == type ? &plan->layouts.at[low] : 0;
+}
+
+/* The passive element segment at this index in the element section, which table.init and elem.drop name:
+ * its place in `passive_elements` and `passive_items`. BOBBINAZURE_NONE where that segment is not passive. */
+static inline uint32_t bobbinazure_passive_elements_of(const bobbinazure_plan *plan, uint32_t segment) {
+    size_t low = 0, high = plan->passive_segments.len;
+    while (low < high) {
+        size_t middle = low + (high - low) / 2;
+        if (plan->passive_segments.at[middle].segment < segment) low = middle + 1;
+        else high = middle;
+    }
+    if (low == plan->passive_segments.len || plan->passive_segments.at[low].segment != segment) return BOBBINAZURE_NONE;
+    return plan->passive_segments.at[low].passive;
+}
+
+/* The runtime data of the passive data segment at this index in the data section, which memory.init and
+ * data.drop name. BOBBINAZURE_NONE where that segment is not passive, and where it has no bytes. */
+static inline uint32_t bobbinazure_passive_data_of(const bobbinazure_plan *plan, uint32_t segment) {
+    size_t low = 0, high = plan->passive.len;
+    while (low < high) {
+        size_t middle = low + (high - low) / 2;
+        if (plan->passive.at[middle].segment < segment) low = middle + 1;
+        else high = middle;
+    }
+    if (low == plan->passive.len || plan->passive.at[low].segment != segment) return BOBBINAZURE_NONE;
+    return plan->passive.at[low].runtime;
+}
+
+/* Whether a memory may be moved as it grows, where so many bytes are reserved for it at first: not where
+ * `may_move` is 0, threads share it, it cannot grow, or all that it grows to is reserved. */
+static inline int bobbinazure_memory_may_move(const bobbinazure_memory *memory, uint64_t reservation, int may_move) {
+    return may_move && !memory->shared && memory->minimum != memory->maximum && memory->maximum_bytes > reservation;
+}
+
+/* Whether guard pages alone check the accesses to a memory, where faults in them become traps. The host's
+ * page size is an exponent of 2; the guard stands behind the reserved bytes. */
+static inline int bobbinazure_can_elide_bounds_check(const bobbinazure_memory *memory, uint64_t reservation,
+                                                     uint64_t guard_size, uint8_t host_page_size_log2) {
+    uint64_t guarded = guard_size > UINT64_MAX - reservation ? UINT64_MAX : reservation + guard_size;
+    return memory->page_size_log2 >= host_page_size_log2 && !memory->wide && guarded >= UINT64_C(4294967296);
 }
 
 /* The options of the program without a word of the command line. */

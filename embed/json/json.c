@@ -53,6 +53,7 @@ static bobbinazure_value interned(const bobbinazure_plan *plan, bobbinazure_valu
 
 static void put_body(const bobbinazure_plan *plan, const bobbinazure_body *body, const uint8_t *module) {
     open_object("body");
+    number("begin", bobbinazure_offset(module, body->bytes));
     number("offset", bobbinazure_offset(module, body->code));
     number("length", body->code.len);
     open_list("locals");

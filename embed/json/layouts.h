@@ -1,7 +1,8 @@
-/* Layouts as JSON: of objects, of the structs that compiled code reads, and of the context. */
+/* Layouts as JSON: of objects, and of the context. */
 #ifndef LAYOUTS_H
 #define LAYOUTS_H
 
+#include "structs.h"
 #include "writer.h"
 
 static void put_layouts(const bobbinazure_plan *plan) {
@@ -31,38 +32,6 @@ static void put_layouts(const bobbinazure_plan *plan) {
         close_object();
     }
     close_list();
-}
-
-#define PUT(of, field) number(#field, structs->of.field)
-#define PUT_1(of, a) open_object(#of), PUT(of, size), PUT(of, a), close_object()
-#define PUT_2(of, a, b) open_object(#of), PUT(of, size), PUT(of, a), PUT(of, b), close_object()
-#define PUT_3(of, a, b, c) open_object(#of), PUT(of, size), PUT(of, a), PUT(of, b), PUT(of, c), close_object()
-
-static void put_structs(const bobbinazure_structs *structs) {
-    open_object("structs");
-    PUT_3(function_import, wasm_call, array_call, vmctx);
-    PUT_3(table_import, from, vmctx, index);
-    PUT_3(memory_import, from, vmctx, index);
-    PUT_3(tag_import, from, vmctx, index);
-    PUT_3(global_import, from, vmctx, kind);
-    PUT_2(memory_definition, base, current_length);
-    PUT_2(table_definition, base, current_elements);
-    PUT_1(global_definition, storage);
-    PUT_1(tag_definition, type_index);
-    open_object("func_ref");
-    PUT(func_ref, size), PUT(func_ref, array_call), PUT(func_ref, wasm_call);
-    PUT(func_ref, type_index), PUT(func_ref, vmctx);
-    close_object();
-    open_object("store_context");
-    PUT(store_context, size), PUT(store_context, fuel_consumed), PUT(store_context, epoch_deadline);
-    PUT(store_context, stack_limit), PUT(store_context, gc_heap), PUT(store_context, last_wasm_exit_trampoline_fp);
-    close_object();
-    open_object("static_context");
-    PUT(static_context, size), PUT(static_context, magic), PUT(static_context, store_context);
-    PUT(static_context, builtin_functions), PUT(static_context, epoch_ptr), PUT(static_context, gc_heap_data);
-    PUT(static_context, type_ids);
-    close_object();
-    close_object();
 }
 
 /* Items of one size that are end to end in the context. */

@@ -49,7 +49,8 @@ use Rattle.plan_tables.specs.declared.rows.LayoutFieldRow.{LayoutFieldRow}
 use Rattle.plan_tables.specs.declared.rows.LayoutRow.{LayoutRow}
 use Rattle.plan_tables.specs.declared.rows.LocalsRow.{LocalsRow}
 use Rattle.plan_tables.specs.declared.rows.Span.{Span}
-use Rattle.plan_tables.specs.Bodies.{body_rows, locals_row, TellsBodies}
+use Rattle.form_reader.specs.ReadingNumbers.{counted_bytes_at}
+use Rattle.plan_tables.specs.Bodies.{sized_bodies, counted_or_none, body_rows, locals_row, TellsBodies}
 use Rattle.plan_tables.specs.Context.{BeginsAt, TellsContext, placed_back}
 use Rattle.plan_tables.specs.Debug.{TellsDebug, local_name, local_names, metadata_run}
 use Rattle.plan_tables.specs.Expressions.{TellsExpressions, TellsPlaces, offset_operators, value_operators}
@@ -118,20 +119,28 @@ layouts-tell ls ks same r c = record {
 abbrev view_body : FunctionBodyData → Body
 view_body input = body_of input.body
 
-bodies_by : ℕ → List Body → List (List ℕ × Span)
-bodies_by n [] = []
-bodies_by n (b ∷ bs) = (b.rest, record { begin = n; len = length b.locals }) ∷ bodies_by (n + length b.locals) bs
+bodies_by : List ℕ → ℕ → List Body → List (List ℕ × List ℕ × Span)
+bodies_by sized n [] = []
+bodies_by sized n (b ∷ bs) =
+    ((counted_or_none (counted_bytes_at sized)).0, b.rest, record { begin = n; len = length b.locals })
+    ∷ bodies_by (counted_or_none (counted_bytes_at sized)).1 (n + length b.locals) bs
 
-bodies-by : (n : ℕ) (bs : List FunctionBodyData) → body_rows n bs ≡ bodies_by n (map view_body bs)
+bodies-by : (sized : List ℕ) (n : ℕ) (bs : List FunctionBodyData) → body_rows sized n bs ≡ bodies_by sized n (map view_body bs)
 unfolding bodies_by
-bodies-by n [] = refl
-bodies-by n (b ∷ bs) = λ i.
-    (b.body.rest.now, record { begin = n; len = length b.body.locals.items }) ∷ bodies-by (n + length b.body.locals.items) bs i
+bodies-by sized n [] = refl
+bodies-by sized n (b ∷ bs) = λ i.
+    ((counted_or_none (counted_bytes_at sized)).0, b.body.rest.now, record { begin = n; len = length b.body.locals.items })
+    ∷ bodies-by (counted_or_none (counted_bytes_at sized)).1 (n + length b.body.locals.items) bs i
 
-bodies-tell : (xs ys : List FunctionBodyData) → map view_body xs ≡ map view_body ys → (r : BodiesRecord) → TellsBodies xs r → TellsBodies ys r
-bodies-tell xs ys same r c = record {
-  rows = c.rows ∙ bodies-by 0 xs ∙ ap (bodies_by 0) same ∙ sym (bodies-by 0 ys);
-  locals = c.locals ∙ lines-told view_body (λ (b : FunctionBodyData). map locals_row b.body.locals.items) (λ (b : Body). map locals_row b.locals) (λ b. refl) xs ys same;
+-- where the bodies of a translation begin
+abbrev bodies_in : ModuleTranslation → List ℕ
+bodies_in t = sized_bodies t.wasm.now t.debuginfo.wasm_file.code_section_offset
+
+bodies-tell : (t u : ModuleTranslation) → SameTranslation t u → (r : BodiesRecord) → TellsBodies t r → TellsBodies u r
+bodies-tell t u same r c = record {
+  rows = c.rows ∙ bodies-by (bodies_in t) 0 t.function_body_inputs ∙ (λ i. bodies_by (sized_bodies (same.wasm i) (same.code_place i)) 0 (same.bodies i)) ∙ sym (bodies-by (bodies_in u) 0 u.function_body_inputs);
+  locals = c.locals ∙ lines-told view_body (λ (b : FunctionBodyData). map locals_row b.body.locals.items) (λ (b : Body). map locals_row b.locals) (λ b. refl)
+    t.function_body_inputs u.function_body_inputs same.bodies;
 }
 
 -- ---- for a debugger
@@ -357,7 +366,7 @@ module _ (p q : Plan) (same : SamePlan p q) where
           interned = subst (λ l. TellsInterned l r.interned) same.types c.interned;
           structs = subst (λ n. TellsStructs n r.structs) pointer c.structs;
           items = items-tell x y t r c.items;
-          bodies = bodies-tell x.function_body_inputs y.function_body_inputs t.bodies r.bodies c.bodies;
+          bodies = bodies-tell x y t r.bodies c.bodies;
           debug = debug-tell x y t r c.debug;
         };
       }

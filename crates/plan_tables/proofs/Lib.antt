@@ -1,3 +1,4 @@
 mod Keyed
+mod MemorySizes
 mod Spans
 mod Taken

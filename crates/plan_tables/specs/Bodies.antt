@@ -1,5 +1,5 @@
 -- What the tables say of the bodies of functions.
-use Rattle.std.specs.Prelude.{◌≡◌, ℕ, ◌+◌, List, [], ◌∷◌, length, map}
+use Rattle.std.specs.Prelude.{◌≡◌, ℕ, ◌+◌, List, [], ◌∷◌, length, map, drop, Result, Ok, Err}
 use Rattle.std.specs.List.{flat_map}
 use Rattle.wasm_spec.specs.declared.types.AbstractHeapType.TheVariants as abstract
 use Rattle.wasm_spec.specs.declared.types.HeapType.{HeapType}
@@ -8,7 +8,10 @@ use Rattle.wasm_spec.specs.declared.types.RefType.{RefType}
 use Rattle.wasm_spec.specs.declared.types.UnpackedIndex.TheVariants as named
 use Rattle.wasm_spec.specs.declared.types.ValType.{ValType}
 use Rattle.wasm_spec.specs.declared.types.ValType.TheVariants as val
+use Rattle.form_reader.specs.Reading.{Fault}
+use Rattle.form_reader.specs.ReadingNumbers.{unsigned_at, counted_bytes_at}
 use Rattle.init_plan.specs.declared.translation.FunctionBodyData.{FunctionBodyData}
+use Rattle.init_plan.specs.declared.translation.ModuleTranslation.{ModuleTranslation}
 use Rattle.plan_tables.specs.declared.record.BodiesRecord.{BodiesRecord}
 use Rattle.plan_tables.specs.declared.record.BodyRow.{BodyRow}
 use Rattle.plan_tables.specs.declared.rows.LocalsRow.{LocalsRow}
@@ -69,16 +72,33 @@ read_row (val.Ref r) = read_ref_row r
 abbrev pub locals_row : ℕ × ValType → LocalsRow
 locals_row run = record { count = run.0; value = read_row run.1 }
 
--- the code of a body, and which of the locals are its own
-abbrev pub body_told : BodyRow → List ℕ × Span
-body_told row = (row.code.now, row.locals)
+-- what follows a number; nothing where there is none
+abbrev pub behind_number : Result (ℕ × List ℕ) Fault → List ℕ
+behind_number (Ok x) = x.1
+behind_number (Err fault) = []
 
--- bodies whose locals are behind n others
-abbrev pub body_rows : ℕ → List FunctionBodyData → List (List ℕ × Span)
-body_rows n [] = []
-body_rows n (b ∷ bs) = (b.body.rest.now, record { begin = n; len = length b.body.locals.items }) ∷ body_rows (n + length b.body.locals.items) bs
+-- the bodies of a module, each behind its size, where the contents of the code section begin with
+-- their number
+abbrev pub sized_bodies : List ℕ → ℕ → List ℕ
+sized_bodies bytes place = behind_number (unsigned_at 32 (drop place bytes))
 
-pub record TellsBodies (bodies : List FunctionBodyData) (r : BodiesRecord) : Type 0 where
-  -- the code of each body, up to its end
-  pub rows : map body_told r.rows.now ≡ body_rows 0 bodies
-  pub locals : r.locals.now ≡ flat_map (λ b. map locals_row b.body.locals.items) bodies
+-- bytes behind their number, and what follows them; nothing where there are none
+abbrev pub counted_or_none : Result (List ℕ × List ℕ) Fault → List ℕ × List ℕ
+counted_or_none (Ok x) = x
+counted_or_none (Err fault) = ([], [])
+
+-- the bytes of a body, its code, and which of the locals are its own
+abbrev pub body_told : BodyRow → List ℕ × List ℕ × Span
+body_told row = (row.bytes.now, row.code.now, row.locals)
+
+-- bodies whose locals are behind n others; each is spelled behind its size
+abbrev pub body_rows : List ℕ → ℕ → List FunctionBodyData → List (List ℕ × List ℕ × Span)
+body_rows sized n [] = []
+body_rows sized n (b ∷ bs) =
+    ((counted_or_none (counted_bytes_at sized)).0, b.body.rest.now, record { begin = n; len = length b.body.locals.items })
+    ∷ body_rows (counted_or_none (counted_bytes_at sized)).1 (n + length b.body.locals.items) bs
+
+pub record TellsBodies (t : ModuleTranslation) (r : BodiesRecord) : Type 0 where
+  -- the bytes of each body, which follow its size, and its code, up to its end
+  pub rows : map body_told r.rows.now ≡ body_rows (sized_bodies t.wasm.now t.debuginfo.wasm_file.code_section_offset) 0 t.function_body_inputs
+  pub locals : r.locals.now ≡ flat_map (λ b. map locals_row b.body.locals.items) t.function_body_inputs

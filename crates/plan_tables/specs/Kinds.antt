@@ -4,6 +4,8 @@ use Rattle.wasm_types.specs.declared.global.Global.{Global}
 use Rattle.wasm_types.specs.declared.memory.Memory.{Memory}
 use Rattle.wasm_types.specs.declared.table.Table.{Table}
 use Rattle.wasm_types.specs.declared.tag.Tag.{Tag}
+use Rattle.wasm_types.specs.Memories.{minimum_bytes}
+use Rattle.wasm_types.specs.Sizes.{maximum_bytes}
 use Rattle.wasm_module.specs.declared.module.Module.{Module}
 use Rattle.plan_lines.specs.TypeLines.{listed_number}
 use Rattle.plan_tables.specs.declared.record.KindsRecord.{KindsRecord}
@@ -11,7 +13,7 @@ use Rattle.plan_tables.specs.declared.rows.GlobalRow.{GlobalRow}
 use Rattle.plan_tables.specs.declared.rows.MemoryRow.{MemoryRow}
 use Rattle.plan_tables.specs.declared.rows.TableRow.{TableRow}
 use Rattle.plan_tables.specs.declared.rows.TagRow.{TagRow}
-use Rattle.plan_tables.specs.Numbers.{bit, wide_bit}
+use Rattle.plan_tables.specs.Numbers.{at_most_64_bits, bit, wide_bit}
 use Rattle.plan_tables.specs.Values.{ref_row, value_row}
 
 -- a greatest size; the greatest number of 64 bits where there is none
@@ -22,6 +24,8 @@ abbrev pub memory_row : Memory → MemoryRow
 memory_row m = record {
   minimum = m.limits.min;
   maximum = greatest m.limits.max;
+  minimum_bytes = at_most_64_bits (minimum_bytes m);
+  maximum_bytes = at_most_64_bits (maximum_bytes m);
   page_size_log2 = m.page_size_log2;
   shared = bit m.shared;
   wide = wide_bit m.idx_type;

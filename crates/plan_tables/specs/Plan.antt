@@ -45,6 +45,6 @@ pub record Tells (plan : Plan) (r : PlanRecord) : Type 0 where
   pub structs : TellsStructs (pointer_of plan.offsets) r.structs
   -- the items of the element segments that remain to be written, and of the passive ones
   pub items : TellsItems plan.translation r.items
-  pub bodies : TellsBodies plan.translation.function_body_inputs r.bodies
+  pub bodies : TellsBodies plan.translation r.bodies
   -- names of locals, and the locals of functions
   pub debug : TellsDebug plan.translation.debuginfo r.debug

@@ -1,15 +1,17 @@
 //! Bodies of functions, with their locals, as tables.
 
-ghost use Rattle.std.specs.Prelude.{◌≡◌, ◌++◌, length, map, IfOk, OnOk};
+ghost use Rattle.std.specs.Prelude.{◌≡◌, ◌++◌, drop, length, map, IfOk, OnOk};
 ghost use Rattle.std.specs.List.{flat_map};
-ghost use Rattle.plan_tables.specs.Bodies.{read_heap_number, read_index_list, read_index_number, read_ref_row, read_row, locals_row, body_told, body_rows, TellsBodies};
+ghost use Rattle.form_reader.specs.ReadingNumbers.{counted_bytes_at};
+ghost use Rattle.plan_tables.specs.Bodies.{read_heap_number, read_index_list, read_index_number, read_ref_row, read_row, locals_row, sized_bodies, counted_or_none, body_told, body_rows, TellsBodies};
 
 use crate::numbers::bit;
 use crate::record::{BodiesRecord, BodyRow};
 use crate::rows::{LocalsRow, Span, ValueRow};
 use crate::values::plain_row;
 use entity_map::OutOfMemory;
-use init_plan::FunctionBodyData;
+use form_reader::{Cursor, ReadError};
+use init_plan::ModuleTranslation;
 use std::alloc::Global;
 use wasm_spec::{AbstractHeapType, HeapType, RefType, UnpackedIndex, ValType};
 
@@ -98,18 +100,61 @@ fn push_locals(rows: &mut Vec<LocalsRow>, locals: &[(u32, ValType)]) -> Result<(
     Ok(())
 }
 
+// The bodies of the module, each behind its size: what follows their number in the code section.
+fn sized_bodies<'d>(bytes: &'d [u8], place: u64) -> Result<Cursor<'d>, OutOfMemory>
+    ensures { IfOk result (λ cursor. cursor.rest.now ≡ sized_bodies bytes.now place) }
+{
+    let mut cursor = Cursor {
+        rest: behind(bytes, place),
+    };
+    match cursor.u32() {
+        Ok(_) => Ok(cursor),
+        Err(ReadError::OutOfMemory) => Err(OutOfMemory),
+        Err(_) => Ok(Cursor { rest: &[] }),
+    }
+}
+
+// The bytes from a place on.
+fn behind(bytes: &[u8], place: u64) -> &[u8]
+    ensures { result.now ≡ drop place bytes.now }
+{
+    if place < bytes.len() as u64 {
+        &bytes[place as usize..]
+    } else {
+        &[]
+    }
+}
+
+// The bytes of the next body, which stand behind its size; none where no body is left.
+fn next_body<'d>(cursor: &mut Cursor<'d>) -> Result<&'d [u8], OutOfMemory>
+    ensures { IfOk result (λ body. (body.now, cursor.new.rest.now) ≡ counted_or_none (counted_bytes_at cursor.old.rest.now)) }
+{
+    match cursor.counted_bytes() {
+        Ok(body) => Ok(body),
+        Err(ReadError::OutOfMemory) => Err(OutOfMemory),
+        Err(_) => {
+            cursor.rest = &[];
+            Ok(&[])
+        }
+    }
+}
+
 /// The bodies of the defined functions.
 pub(crate) fn bodies_record<'d>(
     alloc: Global,
-    bodies: &[FunctionBodyData<'d>],
+    translation: &ModuleTranslation<'d>,
 ) -> Result<BodiesRecord<'d>, OutOfMemory>
-    ensures { IfOk result (TellsBodies bodies.now) }
+    ensures { IfOk result (TellsBodies translation.now) }
 {
+    let bodies = translation.function_body_inputs.as_slice();
+    let place = translation.debuginfo.wasm_file.code_section_offset;
+    let mut cursor = sized_bodies(translation.wasm, place)?;
     let mut rows = Vec::with_capacity(alloc, bodies.len())?;
     let mut locals = Vec::new(alloc);
     for input in bodies {
         let body = &input.body;
         rows.push(BodyRow {
+            bytes: next_body(&mut cursor)?,
             code: body.rest,
             locals: Span {
                 begin: locals.len(),

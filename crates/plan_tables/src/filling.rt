@@ -64,7 +64,7 @@ pub fn fill_record<'d>(
     out.interned = interned_record(alloc, &plan.types)?;
     out.structs = structs_row(&plan.offsets);
     fill_items(alloc, translation, &mut out.items)?;
-    out.bodies = bodies_record(alloc, translation.function_body_inputs.as_slice())?;
+    out.bodies = bodies_record(alloc, translation)?;
     out.debug = debug_record(alloc, &translation.debuginfo)?;
     out.memories = memories_record(alloc, &mut plan.translation)?;
     Ok(())

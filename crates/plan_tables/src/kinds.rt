@@ -3,6 +3,7 @@
 ghost use Rattle.std.specs.Prelude.{◌≡◌, map, IfOk};
 ghost use Rattle.plan_tables.specs.Kinds.{memory_row, table_row, global_row, tag_row, TellsKinds};
 
+use crate::memory_sizes::{maximum_in_bytes, minimum_in_bytes};
 use crate::numbers::{bit, listed_number, wide_bit};
 use crate::record::KindsRecord;
 use crate::rows::{GlobalRow, MemoryRow, TableRow, TagRow};
@@ -34,6 +35,8 @@ fn memory_row(memory: &Memory) -> MemoryRow
     MemoryRow {
         minimum: memory.limits.min,
         maximum: memory.limits.max.unwrap_or(u64::MAX),
+        minimum_bytes: minimum_in_bytes(memory),
+        maximum_bytes: maximum_in_bytes(memory),
         page_size_log2: memory.page_size_log2,
         shared: bit(memory.shared),
         wide: wide_bit(memory.idx_type),

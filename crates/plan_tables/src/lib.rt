@@ -29,6 +29,7 @@ mod items;
 mod kinds;
 mod layouts;
 mod memories;
+mod memory_sizes;
 mod names;
 mod numbers;
 mod operators;

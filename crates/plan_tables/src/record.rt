@@ -136,6 +136,8 @@ pub struct ItemsRecord<'d> {
 #[repr(C)]
 #[derive(Clone, Copy)]
 pub struct BodyRow<'d> {
+    /// Its bytes, which follow its size: its locals, then its code. A part of the module's bytes.
+    pub bytes: &'d [u8],
     /// Its code, behind its locals, up to the end of the body: a part of the module's bytes.
     pub code: &'d [u8],
     /// Its locals, a part of `locals`.

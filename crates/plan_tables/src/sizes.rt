@@ -12,7 +12,7 @@ const _: () = prove!(size_of::<crate::rows::Span>() == 16);
 
 const _: () = prove!(size_of::<crate::rows::ValueRow>() == 8);
 
-const _: () = prove!(size_of::<crate::rows::MemoryRow>() == 24);
+const _: () = prove!(size_of::<crate::rows::MemoryRow>() == 40);
 
 const _: () = prove!(size_of::<crate::rows::TableRow>() == 32);
 
@@ -58,31 +58,31 @@ const _: () = prove!(size_of::<crate::rows::FieldRow>() == 12);
 
 const _: () = prove!(size_of::<crate::rows::TrampolineRow>() == 8);
 
-const _: () = prove!(size_of::<crate::struct_rows::FunctionImportLayout>() == 16);
+const _: () = prove!(size_of::<crate::struct_rows::FunctionImportLayout>() == 28);
 
-const _: () = prove!(size_of::<crate::struct_rows::TableImportLayout>() == 16);
+const _: () = prove!(size_of::<crate::struct_rows::TableImportLayout>() == 28);
 
-const _: () = prove!(size_of::<crate::struct_rows::MemoryImportLayout>() == 16);
+const _: () = prove!(size_of::<crate::struct_rows::MemoryImportLayout>() == 28);
 
-const _: () = prove!(size_of::<crate::struct_rows::TagImportLayout>() == 16);
+const _: () = prove!(size_of::<crate::struct_rows::TagImportLayout>() == 28);
 
-const _: () = prove!(size_of::<crate::struct_rows::GlobalImportLayout>() == 16);
+const _: () = prove!(size_of::<crate::struct_rows::GlobalImportLayout>() == 28);
 
-const _: () = prove!(size_of::<crate::struct_rows::MemoryDefinitionLayout>() == 12);
+const _: () = prove!(size_of::<crate::struct_rows::MemoryDefinitionLayout>() == 20);
 
-const _: () = prove!(size_of::<crate::struct_rows::TableDefinitionLayout>() == 12);
+const _: () = prove!(size_of::<crate::struct_rows::TableDefinitionLayout>() == 20);
 
-const _: () = prove!(size_of::<crate::struct_rows::GlobalDefinitionLayout>() == 8);
+const _: () = prove!(size_of::<crate::struct_rows::GlobalDefinitionLayout>() == 12);
 
-const _: () = prove!(size_of::<crate::struct_rows::TagDefinitionLayout>() == 8);
+const _: () = prove!(size_of::<crate::struct_rows::TagDefinitionLayout>() == 12);
 
-const _: () = prove!(size_of::<crate::struct_rows::FuncRefLayout>() == 20);
+const _: () = prove!(size_of::<crate::struct_rows::FuncRefLayout>() == 36);
 
-const _: () = prove!(size_of::<crate::struct_rows::StoreContextLayout>() == 24);
+const _: () = prove!(size_of::<crate::struct_rows::StoreContextLayout>() == 44);
 
-const _: () = prove!(size_of::<crate::struct_rows::StaticContextLayout>() == 28);
+const _: () = prove!(size_of::<crate::struct_rows::StaticContextLayout>() == 52);
 
-const _: () = prove!(size_of::<crate::struct_rows::Structs>() == 192);
+const _: () = prove!(size_of::<crate::struct_rows::Structs>() == 336);
 
 const _: () = prove!(size_of::<crate::record::RuntimeRow<'static>>() == 24);
 
@@ -94,8 +94,8 @@ const _: () = prove!(size_of::<crate::record::ExpressionsRecord<'static>>() == 3
 
 const _: () = prove!(size_of::<crate::record::ElementItemsRecord<'static>>() == 64);
 
-const _: () = prove!(size_of::<crate::record::BodyRow<'static>>() == 32);
+const _: () = prove!(size_of::<crate::record::BodyRow<'static>>() == 48);
 
 const _: () = prove!(size_of::<crate::record::LocalNameRow<'static>>() == 24);
 
-const _: () = prove!(size_of::<crate::record::PlanRecord<'static>>() == 1344);
+const _: () = prove!(size_of::<crate::record::PlanRecord<'static>>() == 1488);

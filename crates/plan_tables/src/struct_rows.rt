@@ -1,7 +1,7 @@
 //! Rows of where the fields of the structs begin that compiled code reads, with C's layout;
 //! `embed/generate` reads them as those of `rows`.
 //!
-//! Each number is in bytes, and a field's is counted from the beginning of its struct.
+//! Each number is in bytes. Where a field begins is counted from the beginning of its struct.
 
 /// An imported function: `bobbinazure_function_import_layout`.
 #[repr(C)]
@@ -11,10 +11,16 @@ pub struct FunctionImportLayout {
     pub size: u32,
     /// The pointer to its code for calls from compiled code.
     pub wasm_call: u32,
+    /// The size of `wasm_call`.
+    pub wasm_call_size: u32,
     /// The pointer to its code for calls with an array of values.
     pub array_call: u32,
+    /// The size of `array_call`.
+    pub array_call_size: u32,
     /// The pointer to its context.
     pub vmctx: u32,
+    /// The size of `vmctx`.
+    pub vmctx_size: u32,
 }
 
 /// An imported table: `bobbinazure_table_import_layout`.
@@ -25,10 +31,16 @@ pub struct TableImportLayout {
     pub size: u32,
     /// The pointer to its definition.
     pub from: u32,
+    /// The size of `from`.
+    pub from_size: u32,
     /// The pointer to the context that has it.
     pub vmctx: u32,
+    /// The size of `vmctx`.
+    pub vmctx_size: u32,
     /// Its index in that context.
     pub index: u32,
+    /// The size of `index`.
+    pub index_size: u32,
 }
 
 /// An imported memory: `bobbinazure_memory_import_layout`.
@@ -39,10 +51,16 @@ pub struct MemoryImportLayout {
     pub size: u32,
     /// The pointer to its definition.
     pub from: u32,
+    /// The size of `from`.
+    pub from_size: u32,
     /// The pointer to the context that has it.
     pub vmctx: u32,
+    /// The size of `vmctx`.
+    pub vmctx_size: u32,
     /// Its index in that context.
     pub index: u32,
+    /// The size of `index`.
+    pub index_size: u32,
 }
 
 /// An imported tag: `bobbinazure_tag_import_layout`.
@@ -53,10 +71,16 @@ pub struct TagImportLayout {
     pub size: u32,
     /// The pointer to its definition.
     pub from: u32,
+    /// The size of `from`.
+    pub from_size: u32,
     /// The pointer to the context that has it.
     pub vmctx: u32,
+    /// The size of `vmctx`.
+    pub vmctx_size: u32,
     /// Its index in that context.
     pub index: u32,
+    /// The size of `index`.
+    pub index_size: u32,
 }
 
 /// An imported global: `bobbinazure_global_import_layout`.
@@ -67,10 +91,16 @@ pub struct GlobalImportLayout {
     pub size: u32,
     /// The pointer to its definition.
     pub from: u32,
+    /// The size of `from`.
+    pub from_size: u32,
     /// The pointer to the context that has it.
     pub vmctx: u32,
+    /// The size of `vmctx`.
+    pub vmctx_size: u32,
     /// What that context is, a number of 32 bits and a payload of 32 bits.
     pub kind: u32,
+    /// The size of `kind`.
+    pub kind_size: u32,
 }
 
 /// A memory: `bobbinazure_memory_definition_layout`.
@@ -81,8 +111,12 @@ pub struct MemoryDefinitionLayout {
     pub size: u32,
     /// The pointer to its first byte.
     pub base: u32,
+    /// The size of `base`.
+    pub base_size: u32,
     /// The number of its bytes, as wide as a pointer.
     pub current_length: u32,
+    /// The size of `current_length`.
+    pub current_length_size: u32,
 }
 
 /// A table: `bobbinazure_table_definition_layout`.
@@ -93,8 +127,12 @@ pub struct TableDefinitionLayout {
     pub size: u32,
     /// The pointer to its first cell.
     pub base: u32,
+    /// The size of `base`.
+    pub base_size: u32,
     /// The number of its cells, as wide as a pointer.
     pub current_elements: u32,
+    /// The size of `current_elements`.
+    pub current_elements_size: u32,
 }
 
 /// A global: `bobbinazure_global_definition_layout`.
@@ -105,6 +143,8 @@ pub struct GlobalDefinitionLayout {
     pub size: u32,
     /// Its value, in 16 bytes.
     pub storage: u32,
+    /// The size of `storage`.
+    pub storage_size: u32,
 }
 
 /// A tag: `bobbinazure_tag_definition_layout`.
@@ -115,6 +155,8 @@ pub struct TagDefinitionLayout {
     pub size: u32,
     /// Its type, by the index of the engine.
     pub type_index: u32,
+    /// The size of `type_index`.
+    pub type_index_size: u32,
 }
 
 /// A reference to a function: `bobbinazure_func_ref_layout`.
@@ -125,12 +167,20 @@ pub struct FuncRefLayout {
     pub size: u32,
     /// The pointer to its code for calls with an array of values.
     pub array_call: u32,
+    /// The size of `array_call`.
+    pub array_call_size: u32,
     /// The pointer to its code for calls from compiled code.
     pub wasm_call: u32,
+    /// The size of `wasm_call`.
+    pub wasm_call_size: u32,
     /// Its type, by the index of the engine.
     pub type_index: u32,
+    /// The size of `type_index`.
+    pub type_index_size: u32,
     /// The pointer to its context.
     pub vmctx: u32,
+    /// The size of `vmctx`.
+    pub vmctx_size: u32,
 }
 
 /// The context of a store: `bobbinazure_store_context_layout`.
@@ -141,14 +191,24 @@ pub struct StoreContextLayout {
     pub size: u32,
     /// The fuel that was consumed.
     pub fuel_consumed: u32,
+    /// The size of `fuel_consumed`.
+    pub fuel_consumed_size: u32,
     /// The deadline, a number of epochs.
     pub epoch_deadline: u32,
+    /// The size of `epoch_deadline`.
+    pub epoch_deadline_size: u32,
     /// The limit of the stack.
     pub stack_limit: u32,
+    /// The size of `stack_limit`.
+    pub stack_limit_size: u32,
     /// The memory of the collected heap, as `memory_definition`.
     pub gc_heap: u32,
+    /// The size of `gc_heap`.
+    pub gc_heap_size: u32,
     /// The frame pointer of the last trampoline out of compiled code.
     pub last_wasm_exit_trampoline_fp: u32,
+    /// The size of `last_wasm_exit_trampoline_fp`.
+    pub last_wasm_exit_trampoline_fp_size: u32,
 }
 
 /// The part of a context that each module has: `bobbinazure_static_context_layout`.
@@ -159,16 +219,28 @@ pub struct StaticContextLayout {
     pub size: u32,
     /// The number by which a context is recognised.
     pub magic: u32,
+    /// The size of `magic`.
+    pub magic_size: u32,
     /// The pointer to the context of the store.
     pub store_context: u32,
+    /// The size of `store_context`.
+    pub store_context_size: u32,
     /// The pointer to the built-in functions.
     pub builtin_functions: u32,
+    /// The size of `builtin_functions`.
+    pub builtin_functions_size: u32,
     /// The pointer to the current epoch.
     pub epoch_ptr: u32,
+    /// The size of `epoch_ptr`.
+    pub epoch_ptr_size: u32,
     /// The pointer to the data of the collector.
     pub gc_heap_data: u32,
+    /// The size of `gc_heap_data`.
+    pub gc_heap_data_size: u32,
     /// The pointer to the indices of the types.
     pub type_ids: u32,
+    /// The size of `type_ids`.
+    pub type_ids_size: u32,
 }
 
 /// The structs that compiled code reads: `bobbinazure_structs`.

@@ -1,4 +1,4 @@
-//! The structs that compiled code reads, at the plan's size of pointers.
+//! The structs that compiled code reads, and their fields, at the plan's size of pointers.
 
 ghost use Rattle.vm_structs.specs.Fields.{IsPointerSize};
 ghost use Rattle.vm_offsets.specs.Layouts.{pointer_of};
@@ -41,8 +41,11 @@ fn function_import_layout(pointer: u8) -> FunctionImportLayout
     FunctionImportLayout {
         size: u32::from(layout.size()),
         wasm_call: u32::from(layout.wasm_call()),
+        wasm_call_size: u32::from(pointer),
         array_call: u32::from(layout.array_call()),
+        array_call_size: u32::from(pointer),
         vmctx: u32::from(layout.vmctx()),
+        vmctx_size: u32::from(pointer),
     }
 }
 
@@ -54,8 +57,11 @@ fn table_import_layout(pointer: u8) -> TableImportLayout
     TableImportLayout {
         size: u32::from(layout.size()),
         from: u32::from(layout.from()),
+        from_size: u32::from(pointer),
         vmctx: u32::from(layout.vmctx()),
+        vmctx_size: u32::from(pointer),
         index: u32::from(layout.index()),
+        index_size: 4,
     }
 }
 
@@ -67,8 +73,11 @@ fn memory_import_layout(pointer: u8) -> MemoryImportLayout
     MemoryImportLayout {
         size: u32::from(layout.size()),
         from: u32::from(layout.from()),
+        from_size: u32::from(pointer),
         vmctx: u32::from(layout.vmctx()),
+        vmctx_size: u32::from(pointer),
         index: u32::from(layout.index()),
+        index_size: 4,
     }
 }
 
@@ -80,8 +89,11 @@ fn tag_import_layout(pointer: u8) -> TagImportLayout
     TagImportLayout {
         size: u32::from(layout.size()),
         from: u32::from(layout.from()),
+        from_size: u32::from(pointer),
         vmctx: u32::from(layout.vmctx()),
+        vmctx_size: u32::from(pointer),
         index: u32::from(layout.index()),
+        index_size: 4,
     }
 }
 
@@ -93,8 +105,11 @@ fn global_import_layout(pointer: u8) -> GlobalImportLayout
     GlobalImportLayout {
         size: u32::from(layout.size()),
         from: u32::from(layout.from()),
+        from_size: u32::from(pointer),
         vmctx: u32::from(layout.vmctx()),
+        vmctx_size: u32::from(pointer),
         kind: u32::from(layout.kind()),
+        kind_size: 8,
     }
 }
 
@@ -106,7 +121,9 @@ fn memory_definition_layout(pointer: u8) -> MemoryDefinitionLayout
     MemoryDefinitionLayout {
         size: u32::from(layout.size()),
         base: u32::from(layout.base()),
+        base_size: u32::from(pointer),
         current_length: u32::from(layout.current_length()),
+        current_length_size: u32::from(pointer),
     }
 }
 
@@ -118,7 +135,9 @@ fn table_definition_layout(pointer: u8) -> TableDefinitionLayout
     TableDefinitionLayout {
         size: u32::from(layout.size()),
         base: u32::from(layout.base()),
+        base_size: u32::from(pointer),
         current_elements: u32::from(layout.current_elements()),
+        current_elements_size: u32::from(pointer),
     }
 }
 
@@ -130,6 +149,7 @@ fn global_definition_layout(pointer: u8) -> GlobalDefinitionLayout
     GlobalDefinitionLayout {
         size: u32::from(layout.size()),
         storage: u32::from(layout.storage()),
+        storage_size: 16,
     }
 }
 
@@ -141,6 +161,7 @@ fn tag_definition_layout(pointer: u8) -> TagDefinitionLayout
     TagDefinitionLayout {
         size: u32::from(layout.size()),
         type_index: u32::from(layout.type_index()),
+        type_index_size: 4,
     }
 }
 
@@ -152,9 +173,13 @@ fn func_ref_layout(pointer: u8) -> FuncRefLayout
     FuncRefLayout {
         size: u32::from(layout.size()),
         array_call: u32::from(layout.array_call()),
+        array_call_size: u32::from(pointer),
         wasm_call: u32::from(layout.wasm_call()),
+        wasm_call_size: u32::from(pointer),
         type_index: u32::from(layout.type_index()),
+        type_index_size: 4,
         vmctx: u32::from(layout.vmctx()),
+        vmctx_size: u32::from(pointer),
     }
 }
 
@@ -166,10 +191,15 @@ fn store_context_layout(pointer: u8) -> StoreContextLayout
     StoreContextLayout {
         size: u32::from(layout.size()),
         fuel_consumed: u32::from(layout.fuel_consumed()),
+        fuel_consumed_size: 8,
         epoch_deadline: u32::from(layout.epoch_deadline()),
+        epoch_deadline_size: 8,
         stack_limit: u32::from(layout.stack_limit()),
+        stack_limit_size: u32::from(pointer),
         gc_heap: u32::from(layout.gc_heap()),
+        gc_heap_size: u32::from(pointer.vm_memory_definition().size()),
         last_wasm_exit_trampoline_fp: u32::from(layout.last_wasm_exit_trampoline_fp()),
+        last_wasm_exit_trampoline_fp_size: u32::from(pointer),
     }
 }
 
@@ -181,10 +211,16 @@ fn static_context_layout(pointer: u8) -> StaticContextLayout
     StaticContextLayout {
         size: u32::from(layout.end_of_static_fields()),
         magic: u32::from(layout.magic()),
+        magic_size: 4,
         store_context: u32::from(layout.store_context()),
+        store_context_size: u32::from(pointer),
         builtin_functions: u32::from(layout.builtin_functions()),
+        builtin_functions_size: u32::from(pointer),
         epoch_ptr: u32::from(layout.epoch_ptr()),
+        epoch_ptr_size: u32::from(pointer),
         gc_heap_data: u32::from(layout.gc_heap_data()),
+        gc_heap_data_size: u32::from(pointer),
         type_ids: u32::from(layout.type_ids()),
+        type_ids_size: u32::from(pointer),
     }
 }

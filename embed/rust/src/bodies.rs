@@ -6,10 +6,22 @@ use crate::types::{HeapType, RefType, StorageType, TypeIndex, ValType};
 use std::ops::Range;
 
 /// The body of a defined function.
+///
+/// ```
+/// # let bytes = std::fs::read(concat!(env!("CARGO_MANIFEST_DIR"), "/../../examples/linked.wasm"))?;
+/// # let options = bobbinazure::Options { cow: true, lazy_tables: true, ..Default::default() };
+/// # let plan = bobbinazure::Plan::new(&bytes, &options)?;
+/// let add = plan.body(1).unwrap();
+/// assert_eq!(add.bytes.len(), 1 + add.code.len()); // the number of its locals, which is 0
+/// # Ok::<(), Box<dyn std::error::Error>>(())
+/// ```
 #[derive(Clone, Debug)]
 pub struct Body<'p> {
     /// Where it stands in the module, without its size.
     pub range: Range<usize>,
+    /// Its bytes: its locals, then its code. The offset of a branch hint counts from their
+    /// beginning.
+    pub bytes: &'p [u8],
     /// Where its operators begin in the module.
     pub operators: usize,
     /// Its code, from its first operator to its end.
@@ -19,16 +31,21 @@ pub struct Body<'p> {
 }
 
 impl<'p> Body<'p> {
-    /// Its locals besides its parameters, in runs of one type: how many, and their type, by interned types.
+    /// Its locals besides its parameters, in runs of one type: how many, and their type, by
+    /// interned types.
+    ///
+    /// ```
+    /// # let bytes = std::fs::read(concat!(env!("CARGO_MANIFEST_DIR"), "/../../examples/linked.wasm"))?;
+    /// # let options = bobbinazure::Options { cow: true, lazy_tables: true, ..Default::default() };
+    /// # let plan = bobbinazure::Plan::new(&bytes, &options)?;
+    /// let add = plan.body(1).unwrap();
+    /// assert_eq!(add.locals().map(|(count, _)| count).sum::<u32>(), 0);
+    /// # Ok::<(), Box<dyn std::error::Error>>(())
+    /// ```
     pub fn locals(&self) -> impl ExactSizeIterator<Item = (u32, ValType)> + use<'p> {
         let plan = self.plan;
         self.locals.iter().map(move |run| (run.count, plan.local_type(run)))
     }
-}
-
-/// Where a number of the format that begins at a place ends.
-fn behind_number(module: &[u8], at: usize) -> usize {
-    at + module[at..].iter().take_while(|byte| **byte >= 0x80).count() + 1
 }
 
 impl<'d> Plan<'d> {
@@ -41,6 +58,7 @@ impl<'d> Plan<'d> {
     /// let add = plan.bodies().nth(1).unwrap();
     /// assert_eq!(add.code, [0x20, 0x00, 0x20, 0x01, 0x6A, 0x0B]);
     /// assert_eq!(bytes[add.operators..add.range.end], *add.code);
+    /// assert_eq!(bytes[add.range.clone()], *add.bytes);
     /// # Ok::<(), Box<dyn std::error::Error>>(())
     /// ```
     pub fn bodies(&self) -> impl ExactSizeIterator<Item = Body<'_>> {
@@ -62,22 +80,18 @@ impl<'d> Plan<'d> {
         (place < self.record.bodies.as_slice().len()).then(|| self.body_at(place))
     }
 
-    /// Where a code begins in the module.
-    fn place_in_module(&self, code: &[u8]) -> usize {
-        code.as_ptr() as usize - self.module.as_ptr() as usize
+    /// Where a part of the module begins in it.
+    fn place_in_module(&self, part: &[u8]) -> usize {
+        part.as_ptr() as usize - self.module.as_ptr() as usize
     }
 
-    /// The body of this number. Its size stands behind the body before it, or behind the number of bodies.
+    /// The body of this number.
     fn body_at(&self, place: usize) -> Body<'_> {
-        let rows = self.record.bodies.as_slice();
-        let before = match place.checked_sub(1) {
-            Some(previous) => self.place_in_module(rows[previous].code.as_slice()) + rows[previous].code.as_slice().len(),
-            None => behind_number(self.module, self.record.code_section_offset as usize),
-        };
-        let (begin, code) = (behind_number(self.module, before), rows[place].code.as_slice());
-        let operators = self.place_in_module(code);
-        let locals = part(self.record.locals.as_slice(), rows[place].locals);
-        Body { range: begin..operators + code.len(), operators, code, locals, plan: self }
+        let row = &self.record.bodies.as_slice()[place];
+        let (bytes, code) = (row.bytes.as_slice(), row.code.as_slice());
+        let (begin, operators) = (self.place_in_module(bytes), self.place_in_module(code));
+        let locals = part(self.record.locals.as_slice(), row.locals);
+        Body { range: begin..begin + bytes.len(), bytes, operators, code, locals, plan: self }
     }
 
     /// The type of locals: a type of the type section is the interned one.
@@ -98,11 +112,27 @@ impl<'d> Plan<'d> {
     }
 
     /// The branch hints, function by function, those of a function in order.
+    ///
+    /// ```
+    /// # let bytes = std::fs::read(concat!(env!("CARGO_MANIFEST_DIR"), "/../../examples/linked.wasm"))?;
+    /// # let options = bobbinazure::Options { cow: true, lazy_tables: true, ..Default::default() };
+    /// # let plan = bobbinazure::Plan::new(&bytes, &options)?;
+    /// assert!(plan.branch_hints().is_empty()); // of a module that has none, or without the option
+    /// # Ok::<(), Box<dyn std::error::Error>>(())
+    /// ```
     pub fn branch_hints(&self) -> &[BranchHint] {
         self.record.branch_hints.as_slice()
     }
 
     /// The branch hints of a function, in order.
+    ///
+    /// ```
+    /// # let bytes = std::fs::read(concat!(env!("CARGO_MANIFEST_DIR"), "/../../examples/linked.wasm"))?;
+    /// # let options = bobbinazure::Options { cow: true, lazy_tables: true, ..Default::default() };
+    /// # let plan = bobbinazure::Plan::new(&bytes, &options)?;
+    /// assert!(plan.branch_hints_of(1).is_empty());
+    /// # Ok::<(), Box<dyn std::error::Error>>(())
+    /// ```
     pub fn branch_hints_of(&self, function: u32) -> &[BranchHint] {
         let hints = self.branch_hints();
         let begin = hints.partition_point(|hint| hint.function < function);

@@ -7,6 +7,15 @@ use crate::rows::{Field, Span, Type};
 /// A recursion group with the index that an engine has for each type outside of it: two groups of
 /// any modules are of equal types exactly where these are equal. It is what an engine's register of
 /// types has as its key.
+///
+/// ```
+/// # let bytes = std::fs::read(concat!(env!("CARGO_MANIFEST_DIR"), "/../../examples/linked.wasm"))?;
+/// # let plan = bobbinazure::Plan::new(&bytes, &Default::default())?;
+/// let mut register = std::collections::HashMap::new();
+/// let engine_index = register.entry(plan.canonical_group(0, &[])).or_insert(7);
+/// assert_eq!(*engine_index, 7);
+/// # Ok::<(), Box<dyn std::error::Error>>(())
+/// ```
 #[derive(Clone, Debug, PartialEq, Eq, Hash)]
 pub struct CanonicalGroup {
     types: Vec<Type>,
@@ -15,11 +24,25 @@ pub struct CanonicalGroup {
 
 impl CanonicalGroup {
     /// How many types it has.
+    ///
+    /// ```
+    /// # let bytes = std::fs::read(concat!(env!("CARGO_MANIFEST_DIR"), "/../../examples/linked.wasm"))?;
+    /// # let plan = bobbinazure::Plan::new(&bytes, &Default::default())?;
+    /// assert_eq!(plan.canonical_group(0, &[]).len(), 1);
+    /// # Ok::<(), Box<dyn std::error::Error>>(())
+    /// ```
     pub fn len(&self) -> usize {
         self.types.len()
     }
 
     /// Whether it has none.
+    ///
+    /// ```
+    /// # let bytes = std::fs::read(concat!(env!("CARGO_MANIFEST_DIR"), "/../../examples/linked.wasm"))?;
+    /// # let plan = bobbinazure::Plan::new(&bytes, &Default::default())?;
+    /// assert!(!plan.canonical_group(0, &[]).is_empty());
+    /// # Ok::<(), Box<dyn std::error::Error>>(())
+    /// ```
     pub fn is_empty(&self) -> bool {
         self.types.is_empty()
     }

@@ -1,10 +1,20 @@
-//! What the option `native_debug` keeps for a debugger: names of locals, and the metadata of functions.
+//! What the option `native_debug` keeps for a debugger: names of locals, and the metadata of
+//! functions.
 
 use crate::plan::{Plan, name, part};
 use crate::rows::{LocalName, Locals};
 use crate::types::{CompositeType, Fields, StorageType, ValType};
 
 /// The metadata of a defined function.
+///
+/// ```
+/// # let bytes = std::fs::read(concat!(env!("CARGO_MANIFEST_DIR"), "/../../examples/linked.wasm"))?;
+/// let options = bobbinazure::Options { native_debug: true, ..Default::default() };
+/// let plan = bobbinazure::Plan::new(&bytes, &options)?;
+/// let add = plan.function_metadata().nth(1).unwrap();
+/// assert_eq!(add.params.get(1).unwrap().to_string(), "i32");
+/// # Ok::<(), Box<dyn std::error::Error>>(())
+/// ```
 #[derive(Clone, Copy, Debug, PartialEq, Eq, Hash)]
 pub struct FunctionMetadata<'p> {
     /// Its parameters, which are those of its type.
@@ -13,7 +23,17 @@ pub struct FunctionMetadata<'p> {
 }
 
 impl<'p> FunctionMetadata<'p> {
-    /// Its locals besides its parameters, in runs of one type: how many, and their type, by interned types.
+    /// Its locals besides its parameters, in runs of one type: how many, and their type, by
+    /// interned types.
+    ///
+    /// ```
+    /// # let bytes = std::fs::read(concat!(env!("CARGO_MANIFEST_DIR"), "/../../examples/linked.wasm"))?;
+    /// # let options = bobbinazure::Options { native_debug: true, ..Default::default() };
+    /// # let plan = bobbinazure::Plan::new(&bytes, &options)?;
+    /// let (metadata, body) = (plan.function_metadata().next().unwrap(), plan.body(0).unwrap());
+    /// assert!(metadata.locals().eq(body.locals()));
+    /// # Ok::<(), Box<dyn std::error::Error>>(())
+    /// ```
     pub fn locals(&self) -> impl ExactSizeIterator<Item = (u32, ValType)> + use<'p> {
         self.locals.iter().map(|run| (run.count, StorageType::from(run.value).unpacked()))
     }
@@ -81,6 +101,13 @@ impl Plan<'_> {
     }
 
     /// How many functions are imported.
+    ///
+    /// ```
+    /// # let bytes = std::fs::read(concat!(env!("CARGO_MANIFEST_DIR"), "/../../examples/linked.wasm"))?;
+    /// # let plan = bobbinazure::Plan::new(&bytes, &Default::default())?;
+    /// assert_eq!(plan.imported_func_count(), 0);
+    /// # Ok::<(), Box<dyn std::error::Error>>(())
+    /// ```
     pub fn imported_func_count(&self) -> u32 {
         self.record.imported_func_count
     }

@@ -6,6 +6,10 @@ use crate::types::{RefType, StorageType};
 use std::fmt;
 
 /// An entity, by its kind and its index.
+///
+/// ```
+/// assert_eq!(bobbinazure::EntityIndex::Memory(0).to_string(), "memory 0");
+/// ```
 #[derive(Clone, Copy, Debug, PartialEq, Eq, Hash)]
 pub enum EntityIndex {
     /// A function.
@@ -45,6 +49,12 @@ impl fmt::Display for EntityIndex {
 }
 
 /// An import (core specification, 2.5, imports). It displays as `"env" "memory" memory 0`.
+///
+/// ```
+/// use bobbinazure::{EntityIndex, Import};
+/// let import = Import { module: "env", name: "memory", index: EntityIndex::Memory(0) };
+/// assert_eq!(import.to_string(), r#""env" "memory" memory 0"#);
+/// ```
 #[derive(Clone, Copy, Debug, PartialEq, Eq, Hash)]
 pub struct Import<'p> {
     /// The name of the module that it comes from.
@@ -62,6 +72,11 @@ impl fmt::Display for Import<'_> {
 }
 
 /// An export (core specification, 2.5, exports). It displays as `"memory" memory 0`.
+///
+/// ```
+/// use bobbinazure::{EntityIndex, Export};
+/// assert_eq!(Export { name: "memory", index: EntityIndex::Memory(0) }.to_string(), r#""memory" memory 0"#);
+/// ```
 #[derive(Clone, Copy, Debug, PartialEq, Eq, Hash)]
 pub struct Export<'p> {
     /// Its name, which no other export has.
@@ -77,6 +92,15 @@ impl fmt::Display for Export<'_> {
 }
 
 /// A function, imported or defined.
+///
+/// ```
+/// # let bytes = std::fs::read(concat!(env!("CARGO_MANIFEST_DIR"), "/../../examples/linked.wasm"))?;
+/// # let options = bobbinazure::Options { cow: true, lazy_tables: true, ..Default::default() };
+/// # let plan = bobbinazure::Plan::new(&bytes, &options)?;
+/// let add = plan.function(1).unwrap();
+/// assert_eq!((add.imported, add.signature, add.func_ref), (false, 1, Some(1)));
+/// # Ok::<(), Box<dyn std::error::Error>>(())
+/// ```
 #[derive(Clone, Copy, Debug, PartialEq, Eq, Hash)]
 pub struct Function {
     /// Its index.
@@ -85,17 +109,29 @@ pub struct Function {
     pub imported: bool,
     /// Its interned type.
     pub signature: u32,
-    /// Its number among the functions that escape: which of the references of the context is its own.
+    /// Its number among the functions that escape: which of the references of the context is its
+    /// own.
     pub func_ref: Option<u32>,
 }
 
 impl Memory {
     /// The greatest size in pages, if it has one.
+    ///
+    /// ```
+    /// # use bobbinazure::Memory;
+    /// assert_eq!(Memory { maximum: 3, ..Default::default() }.max(), Some(3));
+    /// assert_eq!(Memory { maximum: u64::MAX, ..Default::default() }.max(), None);
+    /// ```
     pub fn max(&self) -> Option<u64> {
         (self.maximum != u64::MAX).then_some(self.maximum)
     }
 
     /// The bytes of a page.
+    ///
+    /// ```
+    /// # use bobbinazure::Memory;
+    /// assert_eq!(Memory { page_size_log2: 16, ..Default::default() }.page_size(), 65536);
+    /// ```
     pub fn page_size(&self) -> u64 {
         1 << self.page_size_log2
     }
@@ -131,18 +167,63 @@ impl Memory {
     }
 
     /// The size in bytes of a memory that neither grows nor shrinks.
+    ///
+    /// ```
+    /// # use bobbinazure::Memory;
+    /// let memory = Memory { minimum: 2, maximum: 2, page_size_log2: 16, ..Default::default() };
+    /// assert_eq!(memory.static_heap_size(), Some(131072));
+    /// assert_eq!(Memory { maximum: 3, ..memory }.static_heap_size(), None);
+    /// ```
     pub fn static_heap_size(&self) -> Option<u64> {
         self.minimum_byte_size().filter(|minimum| self.maximum_byte_size() == Some(*minimum))
+    }
+
+    /// Whether the memory may be moved as it grows, where so many bytes are reserved for it at
+    /// first: not where the host says that it may not, nor where threads share it, where it cannot
+    /// grow, or where all that it grows to is reserved.
+    ///
+    /// ```
+    /// # use bobbinazure::Memory;
+    /// let memory = Memory { minimum: 1, maximum: 4, page_size_log2: 16, ..Default::default() };
+    /// assert!(memory.memory_may_move(65536, true) && !memory.memory_may_move(4 << 16, true));
+    /// ```
+    pub fn memory_may_move(&self, reservation: u64, may_move: bool) -> bool {
+        may_move && !self.shared && self.max() != Some(self.minimum) && self.maximum_byte_size().unwrap_or(u64::MAX) > reservation
+    }
+
+    /// Whether guard pages alone check the accesses, for a host whose faults become traps: its page
+    /// size is an exponent of 2, and so many bytes are reserved, with the guard behind them.
+    ///
+    /// ```
+    /// # use bobbinazure::Memory;
+    /// let memory = Memory { minimum: 1, maximum: 4, page_size_log2: 16, ..Default::default() };
+    /// assert!(memory.can_elide_bounds_check(1 << 32, 0, 12) && !memory.can_elide_bounds_check(1 << 31, 65536, 12));
+    /// ```
+    pub fn can_elide_bounds_check(&self, reservation: u64, guard_size: u64, host_page_size_log2: u8) -> bool {
+        self.page_size_log2 >= host_page_size_log2 && !self.wide && reservation.saturating_add(guard_size) >= 1 << 32
     }
 }
 
 impl Table {
     /// The greatest size in cells, if it has one.
+    ///
+    /// ```
+    /// # use bobbinazure::Table;
+    /// assert_eq!(Table { maximum: 3, ..Default::default() }.max(), Some(3));
+    /// ```
     pub fn max(&self) -> Option<u64> {
         (self.maximum != u64::MAX).then_some(self.maximum)
     }
 
     /// The type of its elements.
+    ///
+    /// ```
+    /// # let bytes = std::fs::read(concat!(env!("CARGO_MANIFEST_DIR"), "/../../examples/linked.wasm"))?;
+    /// # let options = bobbinazure::Options { cow: true, lazy_tables: true, ..Default::default() };
+    /// # let plan = bobbinazure::Plan::new(&bytes, &options)?;
+    /// assert!(plan.tables()[0].ref_type().nullable);
+    /// # Ok::<(), Box<dyn std::error::Error>>(())
+    /// ```
     pub fn ref_type(&self) -> RefType {
         self.element.into()
     }
@@ -150,11 +231,27 @@ impl Table {
 
 impl Global {
     /// The type of its value.
+    ///
+    /// ```
+    /// # let bytes = std::fs::read(concat!(env!("CARGO_MANIFEST_DIR"), "/../../examples/linked.wasm"))?;
+    /// # let options = bobbinazure::Options { cow: true, lazy_tables: true, ..Default::default() };
+    /// # let plan = bobbinazure::Plan::new(&bytes, &options)?;
+    /// assert_eq!(plan.globals()[0].ty(), bobbinazure::ValType::I32.into());
+    /// # Ok::<(), Box<dyn std::error::Error>>(())
+    /// ```
     pub fn ty(&self) -> StorageType {
         self.value.into()
     }
 
     /// Whether it can be written.
+    ///
+    /// ```
+    /// # let bytes = std::fs::read(concat!(env!("CARGO_MANIFEST_DIR"), "/../../examples/linked.wasm"))?;
+    /// # let options = bobbinazure::Options { cow: true, lazy_tables: true, ..Default::default() };
+    /// # let plan = bobbinazure::Plan::new(&bytes, &options)?;
+    /// assert!(plan.globals()[0].mutability()); // the stack pointer
+    /// # Ok::<(), Box<dyn std::error::Error>>(())
+    /// ```
     pub fn mutability(&self) -> bool {
         self.writable != 0
     }

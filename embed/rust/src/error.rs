@@ -4,6 +4,13 @@ use crate::list::List;
 use std::fmt;
 
 /// Why a module is refused.
+///
+/// ```
+/// use bobbinazure::{Error, Options, Plan, Reason};
+/// let limits = b"\0asm\x01\0\0\0\x05\x04\x01\x01\x03\x02"; // a memory of 3 pages and at most 2
+/// let error = Plan::new(limits, &Options::default()).unwrap_err();
+/// assert!(matches!(error, Error::Refused { reason: Reason::Invalid(4), .. }));
+/// ```
 #[derive(Clone, Copy, Debug, PartialEq, Eq, Hash)]
 pub enum Reason {
     /// The bytes spell no module.

@@ -33,6 +33,16 @@ const WORDS: [&str; 22] = [
 
 /// An operator of a constant expression with its immediates, to be matched on. Floats and vectors
 /// are their bits.
+///
+/// ```
+/// # let bytes = std::fs::read(concat!(env!("CARGO_MANIFEST_DIR"), "/../../examples/linked.wasm"))?;
+/// # let options = bobbinazure::Options { cow: true, lazy_tables: true, ..Default::default() };
+/// # let plan = bobbinazure::Plan::new(&bytes, &options)?;
+/// use bobbinazure::{ConstOp, GlobalInit};
+/// let (_, init) = plan.global_initializers().next().unwrap();
+/// assert!(matches!(init, GlobalInit::Value(op) if op.op() == ConstOp::I32Const(1048576)));
+/// # Ok::<(), Box<dyn std::error::Error>>(())
+/// ```
 #[derive(Clone, Copy, Debug, PartialEq, Eq, Hash)]
 pub enum ConstOp {
     /// `i32.const`
@@ -126,6 +136,13 @@ impl Operator {
     }
 
     /// The type of a null reference.
+    ///
+    /// ```
+    /// # use bobbinazure::{HeapType, Operator, numbers};
+    /// let null = Operator { code: numbers::REF_NULL as u8, heap: numbers::HEAP_FUNC as u8, ..Default::default() };
+    /// assert_eq!(null.heap_type(), Some(HeapType::Func));
+    /// assert_eq!(Operator::default().heap_type(), None);
+    /// ```
     pub fn heap_type(&self) -> Option<HeapType> {
         (u32::from(self.code) == numbers::REF_NULL).then(|| HeapType::of(self.heap, self.list, self.index))
     }
@@ -149,11 +166,29 @@ impl fmt::Display for Operator {
 }
 
 /// A constant expression, by its operators. It displays as the text of a plan writes it.
+///
+/// ```
+/// # let bytes = std::fs::read(concat!(env!("CARGO_MANIFEST_DIR"), "/../../examples/overlap.wasm"))?;
+/// # let plan = bobbinazure::Plan::new(&bytes, &Default::default())?;
+/// use bobbinazure::SegmentOffset::Expr;
+/// let Expr(offset) = plan.data_segments().next().unwrap().offset else { panic!("it is not planned") };
+/// assert_eq!(offset.to_string(), "i32.const 16");
+/// # Ok::<(), Box<dyn std::error::Error>>(())
+/// ```
 #[derive(Clone, Copy, Debug, PartialEq, Eq, Hash)]
 pub struct ConstExpr<'p>(pub(crate) &'p [Operator]);
 
 impl<'p> ConstExpr<'p> {
     /// Its operators, in order.
+    ///
+    /// ```
+    /// # let bytes = std::fs::read(concat!(env!("CARGO_MANIFEST_DIR"), "/../../examples/overlap.wasm"))?;
+    /// # let plan = bobbinazure::Plan::new(&bytes, &Default::default())?;
+    /// use bobbinazure::SegmentOffset::Expr;
+    /// let Expr(offset) = plan.data_segments().next().unwrap().offset else { panic!("it is not planned") };
+    /// assert_eq!(offset.ops().len(), 1);
+    /// # Ok::<(), Box<dyn std::error::Error>>(())
+    /// ```
     pub fn ops(&self) -> &'p [Operator] {
         self.0
     }

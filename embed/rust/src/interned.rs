@@ -5,6 +5,14 @@ use crate::rows::{self, LayoutField, Trampoline};
 use crate::types::{CompositeType, Fields, SubType, TypeIndex};
 
 /// The layout of the objects of an interned type.
+///
+/// ```
+/// # let module = b"\0asm\x01\0\0\0\x01\x05\x01\x5F\x01\x7F\0";
+/// let plan = bobbinazure::Plan::new(module, &Default::default())?; // (module (type (struct (field i32))))
+/// let layout = plan.gc_layout(0).unwrap();
+/// assert_eq!((layout.size % layout.align, layout.align >= 4), (0, true));
+/// # Ok::<(), bobbinazure::Error>(())
+/// ```
 #[derive(Clone, Copy, Debug, PartialEq, Eq, Hash)]
 pub struct GcLayout<'p> {
     /// The interned type.
@@ -18,6 +26,14 @@ pub struct GcLayout<'p> {
 }
 
 /// What the objects of a layout are.
+///
+/// ```
+/// # let module = b"\0asm\x01\0\0\0\x01\x04\x01\x5E\x7F\0";
+/// use bobbinazure::{GcLayoutKind, Plan};
+/// let plan = Plan::new(module, &Default::default())?; // (module (type (array i32)))
+/// assert!(matches!(plan.gc_layout(0).unwrap().kind, GcLayoutKind::Array { elem_size: 4, elems_are_gc_refs: false }));
+/// # Ok::<(), bobbinazure::Error>(())
+/// ```
 #[derive(Clone, Copy, Debug, PartialEq, Eq, Hash)]
 pub enum GcLayoutKind<'p> {
     /// Arrays.

@@ -73,12 +73,14 @@ laid_out! {
         list 3,
         index 4,
     }
-    Memory: 24 {
+    Memory: 40 {
         minimum 0,
         maximum 8,
-        page_size_log2 16,
-        shared 17,
-        wide 18,
+        minimum_bytes 16,
+        maximum_bytes 24,
+        page_size_log2 32,
+        shared 33,
+        wide 34,
     }
     Table: 32 {
         minimum 0,
@@ -196,91 +198,127 @@ laid_out! {
         ty 0,
         trampoline 4,
     }
-    FunctionImportLayout: 16 {
+    FunctionImportLayout: 28 {
         size 0,
         wasm_call 4,
-        array_call 8,
+        wasm_call_size 8,
+        array_call 12,
+        array_call_size 16,
+        vmctx 20,
+        vmctx_size 24,
+    }
+    TableImportLayout: 28 {
+        size 0,
+        from 4,
+        from_size 8,
         vmctx 12,
+        vmctx_size 16,
+        index 20,
+        index_size 24,
     }
-    TableImportLayout: 16 {
+    MemoryImportLayout: 28 {
         size 0,
         from 4,
-        vmctx 8,
-        index 12,
+        from_size 8,
+        vmctx 12,
+        vmctx_size 16,
+        index 20,
+        index_size 24,
     }
-    MemoryImportLayout: 16 {
+    TagImportLayout: 28 {
         size 0,
         from 4,
-        vmctx 8,
-        index 12,
+        from_size 8,
+        vmctx 12,
+        vmctx_size 16,
+        index 20,
+        index_size 24,
     }
-    TagImportLayout: 16 {
+    GlobalImportLayout: 28 {
         size 0,
         from 4,
-        vmctx 8,
-        index 12,
+        from_size 8,
+        vmctx 12,
+        vmctx_size 16,
+        kind 20,
+        kind_size 24,
     }
-    GlobalImportLayout: 16 {
-        size 0,
-        from 4,
-        vmctx 8,
-        kind 12,
-    }
-    MemoryDefinitionLayout: 12 {
+    MemoryDefinitionLayout: 20 {
         size 0,
         base 4,
-        current_length 8,
+        base_size 8,
+        current_length 12,
+        current_length_size 16,
     }
-    TableDefinitionLayout: 12 {
+    TableDefinitionLayout: 20 {
         size 0,
         base 4,
-        current_elements 8,
+        base_size 8,
+        current_elements 12,
+        current_elements_size 16,
     }
-    GlobalDefinitionLayout: 8 {
+    GlobalDefinitionLayout: 12 {
         size 0,
         storage 4,
+        storage_size 8,
     }
-    TagDefinitionLayout: 8 {
+    TagDefinitionLayout: 12 {
         size 0,
         type_index 4,
+        type_index_size 8,
     }
-    FuncRefLayout: 20 {
+    FuncRefLayout: 36 {
         size 0,
         array_call 4,
-        wasm_call 8,
-        type_index 12,
-        vmctx 16,
+        array_call_size 8,
+        wasm_call 12,
+        wasm_call_size 16,
+        type_index 20,
+        type_index_size 24,
+        vmctx 28,
+        vmctx_size 32,
     }
-    StoreContextLayout: 24 {
+    StoreContextLayout: 44 {
         size 0,
         fuel_consumed 4,
-        epoch_deadline 8,
-        stack_limit 12,
-        gc_heap 16,
-        last_wasm_exit_trampoline_fp 20,
+        fuel_consumed_size 8,
+        epoch_deadline 12,
+        epoch_deadline_size 16,
+        stack_limit 20,
+        stack_limit_size 24,
+        gc_heap 28,
+        gc_heap_size 32,
+        last_wasm_exit_trampoline_fp 36,
+        last_wasm_exit_trampoline_fp_size 40,
     }
-    StaticContextLayout: 28 {
+    StaticContextLayout: 52 {
         size 0,
         magic 4,
-        store_context 8,
-        builtin_functions 12,
-        epoch_ptr 16,
-        gc_heap_data 20,
-        type_ids 24,
+        magic_size 8,
+        store_context 12,
+        store_context_size 16,
+        builtin_functions 20,
+        builtin_functions_size 24,
+        epoch_ptr 28,
+        epoch_ptr_size 32,
+        gc_heap_data 36,
+        gc_heap_data_size 40,
+        type_ids 44,
+        type_ids_size 48,
     }
-    Structs: 192 {
+    Structs: 336 {
         function_import 0,
-        table_import 16,
-        memory_import 32,
-        tag_import 48,
-        global_import 64,
-        memory_definition 80,
-        table_definition 92,
-        global_definition 104,
-        tag_definition 112,
-        func_ref 120,
-        store_context 140,
-        static_context 164,
+        table_import 28,
+        memory_import 56,
+        tag_import 84,
+        global_import 112,
+        memory_definition 140,
+        table_definition 160,
+        global_definition 180,
+        tag_definition 192,
+        func_ref 204,
+        store_context 240,
+        static_context 284,
     }
     Runtime: 24 {
         made 0,
@@ -304,16 +342,17 @@ laid_out! {
         functions 16,
         expressions 32,
     }
-    Body: 32 {
-        code 0,
-        locals 16,
+    Body: 48 {
+        bytes 0,
+        code 16,
+        locals 32,
     }
     LocalName: 24 {
         function 0,
         local 4,
         name 8,
     }
-    PlanRecord: 1344 {
+    PlanRecord: 1488 {
         refusal 0,
         refusal_detail 4,
         refusal_line 8,
@@ -372,14 +411,14 @@ laid_out! {
         trampolines 904,
         module_text 920,
         structs 936,
-        element_items 1128,
-        passive_items 1192,
-        bodies 1256,
-        locals 1272,
-        imported_func_count 1288,
-        local_names 1296,
-        function_metadata 1312,
-        metadata_locals 1328,
+        element_items 1272,
+        passive_items 1336,
+        bodies 1400,
+        locals 1416,
+        imported_func_count 1432,
+        local_names 1440,
+        function_metadata 1456,
+        metadata_locals 1472,
     }
     Text: 24 {
         text 0,

@@ -1,4 +1,5 @@
-//! Safe Rust over the planner's C interface: prepares a core WebAssembly module before any code is generated.
+//! Safe Rust over the planner's C interface: prepares a core WebAssembly module before any code is
+//! generated.
 //!
 //! ```
 //! use bobbinazure::{Options, Plan};
@@ -39,6 +40,7 @@ mod plan;
 mod records;
 mod rows;
 mod sections;
+mod segments;
 mod startup;
 mod types;
 
@@ -58,9 +60,8 @@ pub use rows::{
     TableImportLayout, Tag, TagDefinitionLayout, TagImportLayout, Trampoline, Value,
 };
 pub use sections::{Section, sections};
-pub use startup::{
-    DataSegment, ElementSegment, Expressions, GlobalInit, Items, MemoryImage, ModuleStartup, PassiveData, PassiveElements, Region, SegmentOffset,
-};
+pub use segments::{ElementSegment, Expressions, Items, PassiveData, PassiveElements};
+pub use startup::{DataSegment, GlobalInit, MemoryImage, ModuleStartup, Region, SegmentOffset};
 pub use types::{CompositeType, FieldType, Fields, HeapType, RefType, StorageType, SubType, TypeIndex, ValType};
 
 unsafe extern "C" {

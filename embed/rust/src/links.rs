@@ -26,6 +26,15 @@ impl Drop for LinkRecord {
 }
 
 /// What an import is given.
+///
+/// ```
+/// use bobbinazure::{Answer, Options, link};
+/// let exporter = b"\0asm\x01\0\0\0\x05\x03\x01\x00\x01\x07\x05\x01\x01m\x02\x00"; // (module (memory (export "m") 1))
+/// let importer = b"\0asm\x01\0\0\0\x02\x08\x01\x01e\x01m\x02\x00\x02"; // (module (import "e" "m" (memory 2)))
+/// let [Answer::Mismatch { line, .. }] = link(exporter, importer, "e", &Options::default())?[..] else { panic!("it is too small") };
+/// assert_eq!(line, "the memory is too small");
+/// # Ok::<(), bobbinazure::LinkError>(())
+/// ```
 #[derive(Clone, Copy, Debug, PartialEq, Eq)]
 pub enum Answer {
     /// The export of this number.
@@ -42,6 +51,12 @@ pub enum Answer {
 }
 
 /// Why two modules have no answers.
+///
+/// ```
+/// use bobbinazure::{Options, link};
+/// let error = link(b"\0asm\x01\0\0\0", b"", "e", &Options::default()).unwrap_err();
+/// assert_eq!(error.to_string(), "second module: refused malformed");
+/// ```
 #[derive(Clone, Copy, Debug, PartialEq, Eq)]
 pub enum LinkError {
     /// The first module has no plan.

@@ -54,7 +54,8 @@ pub struct Place {
     pub section_start: u32,
     /// The entry of the section, from 0 on, where an entry is wrong.
     pub entry: Option<u32>,
-    /// The offset of what is wrong; the length of the input where it ends inside its header or a section.
+    /// The offset of what is wrong; the length of the input where it ends inside its header or a
+    /// section.
     pub byte: u32,
     /// Input that begins with so many of these bytes is refused too; `None` where it ends inside
     /// its header, a size or a section.
@@ -74,6 +75,12 @@ impl fmt::Display for Place {
 /// Says where and why bytes are malformed or not supported; `None` where they are read as a module,
 /// and where there are 2^30 bytes or more. It reads the bytes once more, so it is for refused
 /// modules.
+///
+/// ```
+/// assert_eq!(bobbinazure::locate(b"\0asm")?.unwrap().to_string(), "byte 4, the input does not begin with the header of a module");
+/// assert_eq!(bobbinazure::locate(b"\0asm\x01\0\0\0")?, None);
+/// # Ok::<(), bobbinazure::Error>(())
+/// ```
 ///
 /// # Errors
 /// No memory.
@@ -102,6 +109,13 @@ fn place(record: &PlaceRecord) -> Place {
 }
 
 /// The first rule that a module breaks, where and why. It displays the offset and a sentence.
+///
+/// ```
+/// let module = b"\0asm\x01\0\0\0\x05\x04\x01\x01\x09\x03"; // a memory of 9 pages and at most 3
+/// let broken = bobbinazure::locate_rule(module)?.unwrap();
+/// assert_eq!(broken.to_string(), "byte 11, memory section, entry 0: the maximum 3 is below the minimum 9");
+/// # Ok::<(), bobbinazure::Error>(())
+/// ```
 #[derive(Clone, Debug, PartialEq, Eq, Hash)]
 pub struct BrokenRule {
     /// The rule, from 1 to 10.
@@ -112,7 +126,8 @@ pub struct BrokenRule {
     pub entry: u32,
     /// The id of the section that has it: of an import, the import section.
     pub section: u32,
-    /// The entry of that section, from 0 on: of a type, its group. 0 in a start or data count section.
+    /// The entry of that section, from 0 on: of a type, its group. 0 in a start or data count
+    /// section.
     pub section_entry: u32,
     /// The offset at which the section's entry begins.
     pub byte: u32,
@@ -161,7 +176,8 @@ fn broken_rule(record: &BrokenRuleRecord) -> BrokenRule {
     }
 }
 
-/// What makes a module too large to be planned, and where it is. It displays the offset, if there is one, and a sentence.
+/// What makes a module too large to be planned, and where it is. It displays the offset, if there
+/// is one, and a sentence.
 #[derive(Clone, Debug, PartialEq, Eq, Hash)]
 pub struct Excess {
     /// What it is, from [`numbers::EXCESS_INPUT`](crate::numbers::EXCESS_INPUT) on.
@@ -194,8 +210,9 @@ impl fmt::Display for Excess {
     }
 }
 
-/// Says what makes a module too large to be planned with the options, and where; `None` where it is not too large. For
-/// modules that were refused as too large, or for an offset that overflows. It plans the module again.
+/// Says what makes a module too large to be planned with the options, and where; `None` where it is
+/// not too large. For modules that were refused as too large, or for an offset that overflows. It
+/// plans the module again.
 ///
 /// # Errors
 /// Wrong options; no memory.

@@ -38,6 +38,13 @@ impl Drop for Text {
 /// Its methods have the words of wasmtime-environ. Indices are those of the module: imported
 /// entities come before defined ones, and types are the interned ones unless a method says
 /// otherwise. A plan is plain data: it can be sent to another thread and shared.
+///
+/// ```
+/// let module = b"\0asm\x01\0\0\0\x05\x03\x01\x00\x02"; // (module (memory 2))
+/// let plan = bobbinazure::Plan::new(module, &Default::default())?;
+/// std::thread::scope(|scope| scope.spawn(|| assert_eq!(plan.memories()[0].minimum, 2)).join()).unwrap();
+/// # Ok::<(), bobbinazure::Error>(())
+/// ```
 pub struct Plan<'d> {
     pub(crate) record: Box<PlanRecord>,
     pub(crate) module: &'d [u8],
@@ -134,11 +141,19 @@ impl Plan<'_> {
     }
 
     /// The bytes of a pointer of the target.
+    ///
+    /// ```
+    /// # let bytes = std::fs::read(concat!(env!("CARGO_MANIFEST_DIR"), "/../../examples/linked.wasm"))?;
+    /// # let plan = bobbinazure::Plan::new(&bytes, &Default::default())?;
+    /// assert_eq!(plan.pointer_size(), 8);
+    /// # Ok::<(), Box<dyn std::error::Error>>(())
+    /// ```
     pub fn pointer_size(&self) -> u32 {
         self.record.pointer
     }
 
-    /// Where in the context the reference to the startup function begins, where there is such a function.
+    /// Where in the context the reference to the startup function begins, where there is such a
+    /// function.
     ///
     /// ```
     /// # let bytes = std::fs::read(concat!(env!("CARGO_MANIFEST_DIR"), "/../../examples/linked.wasm"))?;
@@ -153,21 +168,52 @@ impl Plan<'_> {
     }
 
     /// How many functions escape.
+    ///
+    /// ```
+    /// # let bytes = std::fs::read(concat!(env!("CARGO_MANIFEST_DIR"), "/../../examples/linked.wasm"))?;
+    /// # let options = bobbinazure::Options { cow: true, lazy_tables: true, ..Default::default() };
+    /// # let plan = bobbinazure::Plan::new(&bytes, &options)?;
+    /// assert_eq!(plan.num_escaped_funcs(), 2);
+    /// # Ok::<(), Box<dyn std::error::Error>>(())
+    /// ```
     pub fn num_escaped_funcs(&self) -> u64 {
         self.record.escaped_functions
     }
 
     /// Whether the module has sections of debug information, none of which is read.
+    ///
+    /// ```
+    /// # let bytes = std::fs::read(concat!(env!("CARGO_MANIFEST_DIR"), "/../../examples/linked.wasm"))?;
+    /// # let plan = bobbinazure::Plan::new(&bytes, &Default::default())?;
+    /// assert!(!plan.has_unparsed_debuginfo());
+    /// # Ok::<(), Box<dyn std::error::Error>>(())
+    /// ```
     pub fn has_unparsed_debuginfo(&self) -> bool {
         self.record.has_unparsed_debuginfo != 0
     }
 
     /// Where the module begins in the bytes that were read.
+    ///
+    /// ```
+    /// # let bytes = std::fs::read(concat!(env!("CARGO_MANIFEST_DIR"), "/../../examples/linked.wasm"))?;
+    /// # let plan = bobbinazure::Plan::new(&bytes, &Default::default())?;
+    /// assert_eq!(plan.wasm_module_offset(), 0);
+    /// # Ok::<(), Box<dyn std::error::Error>>(())
+    /// ```
     pub fn wasm_module_offset(&self) -> u64 {
         self.record.module_offset
     }
 
-    /// Where the contents of the code section begin in the module, in bytes; 0 without a code section.
+    /// Where the contents of the code section begin in the module, in bytes; 0 without a code
+    /// section.
+    ///
+    /// ```
+    /// # let bytes = std::fs::read(concat!(env!("CARGO_MANIFEST_DIR"), "/../../examples/linked.wasm"))?;
+    /// # let plan = bobbinazure::Plan::new(&bytes, &Default::default())?;
+    /// let code = bobbinazure::sections(&bytes)?.into_iter().find(|section| section.id == 10).unwrap();
+    /// assert_eq!(plan.code_section_offset(), u64::from(code.contents));
+    /// # Ok::<(), Box<dyn std::error::Error>>(())
+    /// ```
     pub fn code_section_offset(&self) -> u64 {
         self.record.code_section_offset
     }

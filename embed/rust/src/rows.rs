@@ -138,6 +138,11 @@ pub struct Memory {
     pub minimum: u64,
     /// The greatest size, in pages; `u64::MAX` where there is none.
     pub maximum: u64,
+    /// The least size, in bytes; `u64::MAX` also where it is more.
+    pub minimum_bytes: u64,
+    /// The greatest size, in bytes, as `minimum_bytes`. Where there is none in pages, what
+    /// addresses reach, or the least size if that is more.
+    pub maximum_bytes: u64,
     /// The page size as an exponent of 2: 0 or 16.
     pub page_size_log2: u8,
     /// Whether threads may share it.
@@ -441,10 +446,16 @@ pub struct FunctionImportLayout {
     pub size: u32,
     /// The pointer to its code for calls from compiled code.
     pub wasm_call: u32,
+    /// The size of `wasm_call`.
+    pub wasm_call_size: u32,
     /// The pointer to its code for calls with an array of values.
     pub array_call: u32,
+    /// The size of `array_call`.
+    pub array_call_size: u32,
     /// The pointer to its context.
     pub vmctx: u32,
+    /// The size of `vmctx`.
+    pub vmctx_size: u32,
 }
 
 /// An imported table.
@@ -455,10 +466,16 @@ pub struct TableImportLayout {
     pub size: u32,
     /// The pointer to its definition.
     pub from: u32,
+    /// The size of `from`.
+    pub from_size: u32,
     /// The pointer to the context that has it.
     pub vmctx: u32,
+    /// The size of `vmctx`.
+    pub vmctx_size: u32,
     /// Its index in that context.
     pub index: u32,
+    /// The size of `index`.
+    pub index_size: u32,
 }
 
 /// An imported memory.
@@ -469,10 +486,16 @@ pub struct MemoryImportLayout {
     pub size: u32,
     /// The pointer to its definition.
     pub from: u32,
+    /// The size of `from`.
+    pub from_size: u32,
     /// The pointer to the context that has it.
     pub vmctx: u32,
+    /// The size of `vmctx`.
+    pub vmctx_size: u32,
     /// Its index in that context.
     pub index: u32,
+    /// The size of `index`.
+    pub index_size: u32,
 }
 
 /// An imported tag.
@@ -483,10 +506,16 @@ pub struct TagImportLayout {
     pub size: u32,
     /// The pointer to its definition.
     pub from: u32,
+    /// The size of `from`.
+    pub from_size: u32,
     /// The pointer to the context that has it.
     pub vmctx: u32,
+    /// The size of `vmctx`.
+    pub vmctx_size: u32,
     /// Its index in that context.
     pub index: u32,
+    /// The size of `index`.
+    pub index_size: u32,
 }
 
 /// An imported global.
@@ -497,10 +526,16 @@ pub struct GlobalImportLayout {
     pub size: u32,
     /// The pointer to its definition.
     pub from: u32,
+    /// The size of `from`.
+    pub from_size: u32,
     /// The pointer to the context that has it.
     pub vmctx: u32,
+    /// The size of `vmctx`.
+    pub vmctx_size: u32,
     /// What that context is, a number of 32 bits and a payload of 32 bits.
     pub kind: u32,
+    /// The size of `kind`.
+    pub kind_size: u32,
 }
 
 /// A memory.
@@ -511,8 +546,12 @@ pub struct MemoryDefinitionLayout {
     pub size: u32,
     /// The pointer to its first byte.
     pub base: u32,
+    /// The size of `base`.
+    pub base_size: u32,
     /// The number of its bytes, as wide as a pointer.
     pub current_length: u32,
+    /// The size of `current_length`.
+    pub current_length_size: u32,
 }
 
 /// A table.
@@ -523,8 +562,12 @@ pub struct TableDefinitionLayout {
     pub size: u32,
     /// The pointer to its first cell.
     pub base: u32,
+    /// The size of `base`.
+    pub base_size: u32,
     /// The number of its cells, as wide as a pointer.
     pub current_elements: u32,
+    /// The size of `current_elements`.
+    pub current_elements_size: u32,
 }
 
 /// A global.
@@ -535,6 +578,8 @@ pub struct GlobalDefinitionLayout {
     pub size: u32,
     /// Its value, in 16 bytes.
     pub storage: u32,
+    /// The size of `storage`.
+    pub storage_size: u32,
 }
 
 /// A tag.
@@ -545,6 +590,8 @@ pub struct TagDefinitionLayout {
     pub size: u32,
     /// Its type, by the index of the engine.
     pub type_index: u32,
+    /// The size of `type_index`.
+    pub type_index_size: u32,
 }
 
 /// A reference to a function.
@@ -555,12 +602,20 @@ pub struct FuncRefLayout {
     pub size: u32,
     /// The pointer to its code for calls with an array of values.
     pub array_call: u32,
+    /// The size of `array_call`.
+    pub array_call_size: u32,
     /// The pointer to its code for calls from compiled code.
     pub wasm_call: u32,
+    /// The size of `wasm_call`.
+    pub wasm_call_size: u32,
     /// Its type, by the index of the engine.
     pub type_index: u32,
+    /// The size of `type_index`.
+    pub type_index_size: u32,
     /// The pointer to its context.
     pub vmctx: u32,
+    /// The size of `vmctx`.
+    pub vmctx_size: u32,
 }
 
 /// The context of a store.
@@ -571,14 +626,24 @@ pub struct StoreContextLayout {
     pub size: u32,
     /// The fuel that was consumed.
     pub fuel_consumed: u32,
+    /// The size of `fuel_consumed`.
+    pub fuel_consumed_size: u32,
     /// The deadline, a number of epochs.
     pub epoch_deadline: u32,
+    /// The size of `epoch_deadline`.
+    pub epoch_deadline_size: u32,
     /// The limit of the stack.
     pub stack_limit: u32,
+    /// The size of `stack_limit`.
+    pub stack_limit_size: u32,
     /// The memory of the collected heap, as `memory_definition`.
     pub gc_heap: u32,
+    /// The size of `gc_heap`.
+    pub gc_heap_size: u32,
     /// The frame pointer of the last trampoline out of compiled code.
     pub last_wasm_exit_trampoline_fp: u32,
+    /// The size of `last_wasm_exit_trampoline_fp`.
+    pub last_wasm_exit_trampoline_fp_size: u32,
 }
 
 /// The part of a context that each module has.
@@ -589,16 +654,28 @@ pub struct StaticContextLayout {
     pub size: u32,
     /// The number by which a context is recognised.
     pub magic: u32,
+    /// The size of `magic`.
+    pub magic_size: u32,
     /// The pointer to the context of the store.
     pub store_context: u32,
+    /// The size of `store_context`.
+    pub store_context_size: u32,
     /// The pointer to the built-in functions.
     pub builtin_functions: u32,
+    /// The size of `builtin_functions`.
+    pub builtin_functions_size: u32,
     /// The pointer to the current epoch.
     pub epoch_ptr: u32,
+    /// The size of `epoch_ptr`.
+    pub epoch_ptr_size: u32,
     /// The pointer to the data of the collector.
     pub gc_heap_data: u32,
+    /// The size of `gc_heap_data`.
+    pub gc_heap_data_size: u32,
     /// The pointer to the indices of the types.
     pub type_ids: u32,
+    /// The size of `type_ids`.
+    pub type_ids_size: u32,
 }
 
 /// The structs that compiled code reads.
@@ -668,6 +745,8 @@ pub struct FunctionName {
 #[repr(C)]
 #[derive(Default)]
 pub struct Body {
+    /// Its bytes, which follow its size: its locals, then its code. A part of the module's bytes.
+    pub(crate) bytes: List<u8>,
     /// Its code, behind its locals, up to the end of the body: a part of the module's bytes.
     pub(crate) code: List<u8>,
     /// Its locals, a part of `locals`.
@@ -744,8 +823,8 @@ pub struct Excess {
     pub kind: u32,
     /// The index of the memory, the type or the tag; `u32::MAX` of the input and the context.
     pub index: u32,
-    /// The id of the section that has it: of an import, the import section; `u32::MAX` of the input and
-    /// the context.
+    /// The id of the section that has it: of an import, the import section; `u32::MAX` of the input
+    /// and the context.
     pub section: u32,
     /// The entry of that section, from 0 on: of a type, its group. 0 of the input and the context.
     pub section_entry: u32,

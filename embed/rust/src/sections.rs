@@ -16,6 +16,12 @@ impl Drop for SectionsRecord {
 }
 
 /// A section of a module. Offsets count the bytes of the module, from 0 on.
+///
+/// ```
+/// let [section] = bobbinazure::sections(b"\0asm\x01\0\0\0\x00\x03\x01ab")?[..] else { panic!("it has one") };
+/// assert_eq!((section.name, section.contents, section.size), (Some("a"), 10, 3)); // the contents begin with the name
+/// # Ok::<(), bobbinazure::Error>(())
+/// ```
 #[derive(Clone, Copy, Debug, PartialEq, Eq, Hash)]
 pub struct Section<'a> {
     /// The id; no section of a module has one above 13.
@@ -26,7 +32,8 @@ pub struct Section<'a> {
     pub contents: u32,
     /// The length of its contents, in bytes.
     pub size: u32,
-    /// The name of a custom section; `None` for another section, and where the contents begin with no name.
+    /// The name of a custom section; `None` for another section, and where the contents begin with
+    /// no name.
     pub name: Option<&'a str>,
 }
 

@@ -2,11 +2,16 @@
 
 use crate::expressions::ConstExpr;
 use crate::plan::{Plan, name, operators, part};
-use crate::records::ElementItemsRecord;
-use crate::rows::{self, Operator, Span};
-use crate::types::RefType;
+use crate::rows::{self, Operator};
 
 /// When the startup function runs, and its interned type.
+///
+/// ```
+/// # let bytes = std::fs::read(concat!(env!("CARGO_MANIFEST_DIR"), "/../../examples/overlap.wasm"))?;
+/// # let plan = bobbinazure::Plan::new(&bytes, &Default::default())?;
+/// assert_eq!(plan.startup(), bobbinazure::ModuleStartup::Always(0));
+/// # Ok::<(), Box<dyn std::error::Error>>(())
+/// ```
 #[derive(Clone, Copy, Debug, PartialEq, Eq, Hash)]
 pub enum ModuleStartup {
     /// There is none.
@@ -18,6 +23,15 @@ pub enum ModuleStartup {
 }
 
 /// The image of a memory: the bytes that it begins with, at an address.
+///
+/// ```
+/// # let bytes = std::fs::read(concat!(env!("CARGO_MANIFEST_DIR"), "/../../examples/linked.wasm"))?;
+/// # let options = bobbinazure::Options { cow: true, lazy_tables: true, ..Default::default() };
+/// # let plan = bobbinazure::Plan::new(&bytes, &options)?;
+/// let image = plan.memory_images().next().unwrap();
+/// assert_eq!(image.bytes, plan.bytes(image.runtime));
+/// # Ok::<(), Box<dyn std::error::Error>>(())
+/// ```
 #[derive(Clone, Copy, Debug, PartialEq, Eq, Hash)]
 pub struct MemoryImage<'p> {
     /// The memory, by its index.
@@ -31,6 +45,15 @@ pub struct MemoryImage<'p> {
 }
 
 /// Where a planned data segment begins.
+///
+/// ```
+/// # let bytes = std::fs::read(concat!(env!("CARGO_MANIFEST_DIR"), "/../../examples/linked.wasm"))?;
+/// # let options = bobbinazure::Options { cow: true, lazy_tables: true, ..Default::default() };
+/// # let plan = bobbinazure::Plan::new(&bytes, &options)?;
+/// let segment = plan.data_segments().next().unwrap();
+/// assert_eq!(segment.offset, bobbinazure::SegmentOffset::Static(1048576));
+/// # Ok::<(), Box<dyn std::error::Error>>(())
+/// ```
 #[derive(Clone, Copy, Debug, PartialEq, Eq, Hash)]
 pub enum SegmentOffset<'p> {
     /// At this address, which was planned.
@@ -40,6 +63,15 @@ pub enum SegmentOffset<'p> {
 }
 
 /// A data segment that is left to be written.
+///
+/// ```
+/// # let bytes = std::fs::read(concat!(env!("CARGO_MANIFEST_DIR"), "/../../examples/linked.wasm"))?;
+/// # let options = bobbinazure::Options { cow: true, lazy_tables: true, ..Default::default() };
+/// # let plan = bobbinazure::Plan::new(&bytes, &options)?;
+/// let segment = plan.data_segments().next().unwrap();
+/// assert_eq!((segment.memory, segment.bytes), (0, plan.bytes(segment.runtime)));
+/// # Ok::<(), Box<dyn std::error::Error>>(())
+/// ```
 #[derive(Clone, Copy, Debug, PartialEq, Eq, Hash)]
 pub struct DataSegment<'p> {
     /// The memory that it writes, by its index.
@@ -52,87 +84,16 @@ pub struct DataSegment<'p> {
     pub bytes: &'p [u8],
 }
 
-/// A passive data segment that keeps its bytes.
-#[derive(Clone, Copy, Debug, PartialEq, Eq, Hash)]
-pub struct PassiveData<'p> {
-    /// Its number in the data section.
-    pub segment: u32,
-    /// The runtime data that holds its bytes.
-    pub runtime: u32,
-    /// Its bytes.
-    pub bytes: &'p [u8],
-}
-
-/// An element segment that is left to be written.
-#[derive(Clone, Copy, Debug, PartialEq, Eq, Hash)]
-pub struct ElementSegment<'p> {
-    /// The table that it writes, by its index.
-    pub table: u32,
-    /// Where in the table it begins, in cells.
-    pub offset: ConstExpr<'p>,
-    /// What it writes.
-    pub items: Items<'p>,
-}
-
-/// A passive element segment.
-#[derive(Clone, Copy, Debug, PartialEq, Eq, Hash)]
-pub struct PassiveElements<'p> {
-    /// The type of its items.
-    pub element: RefType,
-    /// What it holds.
-    pub items: Items<'p>,
-}
-
-/// The items of an element segment.
-#[derive(Clone, Copy, Debug, PartialEq, Eq, Hash)]
-pub enum Items<'p> {
-    /// Functions, by their indices.
-    Functions(&'p [u32]),
-    /// Constant expressions, where there is one.
-    Expressions(Expressions<'p>),
-}
-
-impl Items<'_> {
-    /// How many there are.
-    pub fn len(&self) -> usize {
-        match self {
-            Items::Functions(functions) => functions.len(),
-            Items::Expressions(expressions) => expressions.parts.len(),
-        }
-    }
-
-    /// Whether there are none.
-    pub fn is_empty(&self) -> bool {
-        self.len() == 0
-    }
-}
-
-/// Several constant expressions.
-#[derive(Clone, Copy, Debug, PartialEq, Eq, Hash)]
-pub struct Expressions<'p> {
-    parts: &'p [Span],
-    operators: &'p [Operator],
-}
-
-impl<'p> Expressions<'p> {
-    /// Each, in order.
-    pub fn iter(&self) -> impl ExactSizeIterator<Item = ConstExpr<'p>> + use<'p> {
-        let operators = self.operators;
-        self.parts.iter().map(move |span| ConstExpr(part(operators, *span)))
-    }
-}
-
-/// The items of one of several segments.
-fn items(record: &ElementItemsRecord, place: usize) -> Items<'_> {
-    let row = &record.rows.as_slice()[place];
-    if row.expressions.len == 0 {
-        return Items::Functions(part(record.functions.as_slice(), row.functions));
-    }
-    let parts = part(record.expressions.parts.as_slice(), row.expressions);
-    Items::Expressions(Expressions { parts, operators: record.expressions.operators.as_slice() })
-}
-
 /// How a defined global begins.
+///
+/// ```
+/// # let bytes = std::fs::read(concat!(env!("CARGO_MANIFEST_DIR"), "/../../examples/linked.wasm"))?;
+/// # let options = bobbinazure::Options { cow: true, lazy_tables: true, ..Default::default() };
+/// # let plan = bobbinazure::Plan::new(&bytes, &options)?;
+/// let (_, init) = plan.global_initializers().next().unwrap();
+/// assert!(matches!(init, bobbinazure::GlobalInit::Value(op) if op.to_string() == "i32.const 1048576"));
+/// # Ok::<(), Box<dyn std::error::Error>>(())
+/// ```
 #[derive(Clone, Copy, Debug, PartialEq, Eq, Hash)]
 pub enum GlobalInit<'p> {
     /// As a known value.
@@ -254,21 +215,6 @@ impl Plan<'_> {
         })
     }
 
-    /// The passive data segments that keep their bytes: what `memory.init` and `data.drop` name.
-    /// One without bytes is not among them.
-    ///
-    /// ```
-    /// # let bytes = std::fs::read(concat!(env!("CARGO_MANIFEST_DIR"), "/../../examples/linked.wasm"))?;
-    /// # let options = bobbinazure::Options { cow: true, lazy_tables: true, ..Default::default() };
-    /// # let plan = bobbinazure::Plan::new(&bytes, &options)?;
-    /// assert_eq!(plan.passive_data().len(), 0);
-    /// # Ok::<(), Box<dyn std::error::Error>>(())
-    /// ```
-    pub fn passive_data(&self) -> impl ExactSizeIterator<Item = PassiveData<'_>> {
-        let data = |row: &rows::Passive| PassiveData { segment: row.segment, runtime: row.runtime, bytes: self.bytes(row.runtime) };
-        self.record.passive.as_slice().iter().map(data)
-    }
-
     /// The first cells of each defined table: functions by their indices, `u32::MAX` for the null
     /// reference. Cells behind them are null.
     ///
@@ -296,43 +242,6 @@ impl Plan<'_> {
     pub fn table_initial_values(&self) -> impl ExactSizeIterator<Item = Option<ConstExpr<'_>>> {
         let values = &self.record.table_values;
         (0..values.parts.as_slice().len()).map(move |place| Some(ConstExpr(operators(values, place))).filter(|value| !value.ops().is_empty()))
-    }
-
-    /// The element segments that are left to be written, in order.
-    ///
-    /// ```
-    /// # let bytes = std::fs::read(concat!(env!("CARGO_MANIFEST_DIR"), "/../../examples/linked.wasm"))?;
-    /// # let options = bobbinazure::Options { cow: true, lazy_tables: true, ..Default::default() };
-    /// # let plan = bobbinazure::Plan::new(&bytes, &options)?;
-    /// assert_eq!(plan.element_segments().len(), 0);
-    /// # Ok::<(), Box<dyn std::error::Error>>(())
-    /// ```
-    pub fn element_segments(&self) -> impl ExactSizeIterator<Item = ElementSegment<'_>> {
-        self.record.elements.as_slice().iter().enumerate().map(|(place, row)| ElementSegment {
-            table: row.table,
-            offset: ConstExpr(operators(&self.record.element_places, place)),
-            items: items(&self.record.element_items, place),
-        })
-    }
-
-    /// The passive element segments, in order.
-    ///
-    /// ```
-    /// # let bytes = std::fs::read(concat!(env!("CARGO_MANIFEST_DIR"), "/../../examples/linked.wasm"))?;
-    /// # let options = bobbinazure::Options { cow: true, lazy_tables: true, ..Default::default() };
-    /// # let plan = bobbinazure::Plan::new(&bytes, &options)?;
-    /// assert_eq!(plan.passive_elements().len(), 0);
-    /// # Ok::<(), Box<dyn std::error::Error>>(())
-    /// ```
-    pub fn passive_elements(&self) -> impl ExactSizeIterator<Item = PassiveElements<'_>> {
-        let rows = self.record.passive_elements.as_slice().iter().enumerate();
-        rows.map(|(place, row)| PassiveElements { element: row.element.into(), items: items(&self.record.passive_items, place) })
-    }
-
-    /// Which segments of the element section are passive, and the number of each among those: what
-    /// `table.init` and `elem.drop` name.
-    pub fn passive_elem_map(&self) -> impl ExactSizeIterator<Item = (u32, u32)> {
-        self.record.passive_segments.as_slice().iter().map(|row| (row.segment, row.passive))
     }
 
     /// How the defined globals begin, by the index of each among those: those of a known value,
@@ -369,6 +278,15 @@ impl Plan<'_> {
 }
 
 /// A region of the context.
+///
+/// ```
+/// # let bytes = std::fs::read(concat!(env!("CARGO_MANIFEST_DIR"), "/../../examples/linked.wasm"))?;
+/// # let options = bobbinazure::Options { cow: true, lazy_tables: true, ..Default::default() };
+/// # let plan = bobbinazure::Plan::new(&bytes, &options)?;
+/// let region = plan.regions().find(|region| region.name == "defined globals").unwrap();
+/// assert_eq!((region.begin, region.size), (plan.offsets().globals, 16));
+/// # Ok::<(), Box<dyn std::error::Error>>(())
+/// ```
 #[derive(Clone, Copy, Debug, PartialEq, Eq, Hash)]
 pub struct Region<'p> {
     /// What it holds.

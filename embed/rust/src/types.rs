@@ -3,7 +3,12 @@
 use crate::rows::{Field, Value};
 use std::fmt;
 
-/// A type by its index, and which list it is of. The types of a plan are named by [`TypeIndex::Module`].
+/// A type by its index, and which list it is of. The types of a plan are named by
+/// [`TypeIndex::Module`].
+///
+/// ```
+/// assert_eq!(bobbinazure::TypeIndex::Module(3).to_string(), "(module 3)");
+/// ```
 #[derive(Clone, Copy, Debug, PartialEq, Eq, Hash)]
 pub enum TypeIndex {
     /// Of the types that an engine shares.
@@ -47,6 +52,11 @@ impl fmt::Display for TypeIndex {
 }
 
 /// What a reference is to (core specification, 2.3, heap types).
+///
+/// ```
+/// use bobbinazure::{HeapType, TypeIndex};
+/// assert_eq!(HeapType::ConcreteStruct(TypeIndex::Module(2)).to_string(), "struct (module 2)");
+/// ```
 #[derive(Clone, Copy, Debug, PartialEq, Eq, Hash)]
 pub enum HeapType {
     /// A value of the host.
@@ -169,6 +179,12 @@ impl fmt::Display for RefType {
 }
 
 /// A value type (core specification, 2.3, value types).
+///
+/// ```
+/// use bobbinazure::{HeapType, RefType, ValType};
+/// let ty = ValType::from(RefType { nullable: true, heap_type: HeapType::Extern });
+/// assert_eq!((ValType::F64.to_string(), ty.to_string()), ("f64".to_string(), "externref".to_string()));
+/// ```
 #[derive(Clone, Copy, Debug, PartialEq, Eq, Hash)]
 pub enum ValType {
     /// An integer of 32 bits.
@@ -205,6 +221,12 @@ impl fmt::Display for ValType {
 }
 
 /// What a field or an element of an array holds (core specification, 2.3, composite types).
+///
+/// ```
+/// use bobbinazure::{StorageType, ValType};
+/// assert_eq!(StorageType::I8.to_string(), "i8");
+/// assert_eq!(StorageType::from(ValType::I64), StorageType::Val(ValType::I64));
+/// ```
 #[derive(Clone, Copy, Debug, PartialEq, Eq, Hash)]
 pub enum StorageType {
     /// An integer packed into 8 bits.
@@ -264,6 +286,11 @@ impl fmt::Display for StorageType {
 }
 
 /// A field of a struct or an exception, or the elements of an array.
+///
+/// ```
+/// use bobbinazure::{FieldType, StorageType};
+/// assert_eq!(FieldType { element_type: StorageType::I16, mutable: true }.to_string(), "(mut i16)");
+/// ```
 #[derive(Clone, Copy, Debug, PartialEq, Eq, Hash)]
 pub struct FieldType {
     /// What it holds.
@@ -285,32 +312,79 @@ impl fmt::Display for FieldType {
 }
 
 /// Fields, parameters or results.
+///
+/// ```
+/// # let bytes = std::fs::read(concat!(env!("CARGO_MANIFEST_DIR"), "/../../examples/linked.wasm"))?;
+/// # let plan = bobbinazure::Plan::new(&bytes, &Default::default())?;
+/// let Some(bobbinazure::CompositeType::Func { params, .. }) = plan.ty(1).map(|ty| ty.composite_type) else { panic!("it is a function") };
+/// assert_eq!(params.iter().map(|ty| ty.to_string()).collect::<Vec<_>>(), ["i32", "i32"]);
+/// # Ok::<(), Box<dyn std::error::Error>>(())
+/// ```
 #[derive(Clone, Copy, Debug, PartialEq, Eq, Hash)]
 pub struct Fields<'p>(pub(crate) &'p [Field]);
 
 impl<'p> Fields<'p> {
     /// How many there are.
+    ///
+    /// ```
+    /// # let bytes = std::fs::read(concat!(env!("CARGO_MANIFEST_DIR"), "/../../examples/linked.wasm"))?;
+    /// # let plan = bobbinazure::Plan::new(&bytes, &Default::default())?;
+    /// # let Some(bobbinazure::CompositeType::Func { params, .. }) = plan.ty(1).map(|ty| ty.composite_type) else { panic!() };
+    /// assert_eq!(params.len(), 2);
+    /// # Ok::<(), Box<dyn std::error::Error>>(())
+    /// ```
     pub fn len(&self) -> usize {
         self.0.len()
     }
 
     /// Whether there are none.
+    ///
+    /// ```
+    /// # let bytes = std::fs::read(concat!(env!("CARGO_MANIFEST_DIR"), "/../../examples/linked.wasm"))?;
+    /// # let plan = bobbinazure::Plan::new(&bytes, &Default::default())?;
+    /// # let Some(bobbinazure::CompositeType::Func { params, .. }) = plan.ty(1).map(|ty| ty.composite_type) else { panic!() };
+    /// assert!(!params.is_empty());
+    /// # Ok::<(), Box<dyn std::error::Error>>(())
+    /// ```
     pub fn is_empty(&self) -> bool {
         self.0.is_empty()
     }
 
     /// One of them.
+    ///
+    /// ```
+    /// # let bytes = std::fs::read(concat!(env!("CARGO_MANIFEST_DIR"), "/../../examples/linked.wasm"))?;
+    /// # let plan = bobbinazure::Plan::new(&bytes, &Default::default())?;
+    /// # let Some(bobbinazure::CompositeType::Func { params, .. }) = plan.ty(1).map(|ty| ty.composite_type) else { panic!() };
+    /// assert_eq!(params.get(2), None);
+    /// # Ok::<(), Box<dyn std::error::Error>>(())
+    /// ```
     pub fn get(&self, place: usize) -> Option<FieldType> {
         self.0.get(place).map(|row| (*row).into())
     }
 
     /// Each, in order.
+    ///
+    /// ```
+    /// # let bytes = std::fs::read(concat!(env!("CARGO_MANIFEST_DIR"), "/../../examples/linked.wasm"))?;
+    /// # let plan = bobbinazure::Plan::new(&bytes, &Default::default())?;
+    /// # let Some(bobbinazure::CompositeType::Func { params, .. }) = plan.ty(1).map(|ty| ty.composite_type) else { panic!() };
+    /// assert!(params.iter().all(|ty| !ty.mutable));
+    /// # Ok::<(), Box<dyn std::error::Error>>(())
+    /// ```
     pub fn iter(&self) -> impl ExactSizeIterator<Item = FieldType> + use<'p> {
         self.0.iter().map(|row| (*row).into())
     }
 }
 
 /// A composite type (core specification, 2.3, composite types).
+///
+/// ```
+/// # let bytes = std::fs::read(concat!(env!("CARGO_MANIFEST_DIR"), "/../../examples/linked.wasm"))?;
+/// # let plan = bobbinazure::Plan::new(&bytes, &Default::default())?;
+/// assert_eq!(plan.ty(1).unwrap().composite_type.to_string(), "(func (param i32 i32) (result i32))");
+/// # Ok::<(), Box<dyn std::error::Error>>(())
+/// ```
 #[derive(Clone, Copy, Debug, PartialEq, Eq, Hash)]
 pub enum CompositeType<'p> {
     /// An array, by its elements.
@@ -336,6 +410,14 @@ pub enum CompositeType<'p> {
 }
 
 /// A type with its supertype (core specification, 2.3, recursive types).
+///
+/// ```
+/// # let bytes = std::fs::read(concat!(env!("CARGO_MANIFEST_DIR"), "/../../examples/linked.wasm"))?;
+/// # let plan = bobbinazure::Plan::new(&bytes, &Default::default())?;
+/// let ty = plan.ty(0).unwrap();
+/// assert_eq!((ty.is_final, ty.supertype, ty.to_string()), (true, None, "(func)".to_string()));
+/// # Ok::<(), Box<dyn std::error::Error>>(())
+/// ```
 #[derive(Clone, Copy, Debug, PartialEq, Eq, Hash)]
 pub struct SubType<'p> {
     /// Whether it can have no subtypes.

@@ -3,7 +3,8 @@
 use bobbinazure::{CanonicalGroup, Options, Plan};
 use std::collections::HashMap;
 
-/// (func), (func (param (ref 0))), and a group of two structs that refer to each other and to the first.
+/// (func), (func (param (ref 0))), and a group of two structs that refer to each other and to the
+/// first.
 const ONE: &[u8] = &[
     0x00, 0x61, 0x73, 0x6D, 0x01, 0x00, 0x00, 0x00, // the header
     0x01, 0x18, 0x03, // types

@@ -1,4 +1,5 @@
-//! The text of a plan, written out of what the methods of `Plan` tell: each line of it, and no other.
+//! The text of a plan, written out of what the methods of `Plan` tell: each line of it, and no
+//! other.
 
 use bobbinazure::{ConstExpr, GcLayoutKind, GlobalInit, LayoutField, ModuleStartup, Options, Plan, SegmentOffset, plan_and_text};
 use std::fmt::Write;
@@ -143,7 +144,8 @@ fn digits(word: &str) -> Vec<u8> {
     (0..word.len()).step_by(2).map(|at| u8::from_str_radix(&word[at..at + 2], 16).expect("a byte")).collect()
 }
 
-/// The bytes of a piece of a case: `02000B`, `4096*00`, `"abc"`, or `'abc'` with its length before it.
+/// The bytes of a piece of a case: `02000B`, `4096*00`, `"abc"`, or `'abc'` with its length before
+/// it.
 fn piece(word: &str) -> Vec<u8> {
     if let Some(text) = word.strip_prefix('"') {
         text.trim_end_matches('"').into()
@@ -157,7 +159,8 @@ fn piece(word: &str) -> Vec<u8> {
     }
 }
 
-/// The module of a case of crates/plan_cases; none where its lines give more than bytes, or want a refusal.
+/// The module of a case of crates/plan_cases; none where its lines give more than bytes, or want a
+/// refusal.
 fn module(case: &str) -> Option<Vec<u8>> {
     let mut bytes = Vec::new();
     for line in case.lines() {

@@ -35,6 +35,7 @@ fn bodies_stand_in_the_module() {
         (92..94, 93, &[0x0B][..]),
         (95..102, 101, &[0x0B][..])
     ]);
+    assert!(bodies.iter().all(|body| *body.bytes == MODULE[body.range.clone()] && body.bytes.ends_with(body.code)));
     assert_eq!(bodies[0].locals().len(), 0);
     let locals: Vec<_> = bodies[1].locals().map(|(count, ty)| format!("{count} {ty}")).collect();
     assert_eq!(locals, ["3 i32".to_string(), format!("2 (ref null struct (module {}))", plan.declared_types()[1])]);
@@ -55,6 +56,9 @@ fn element_segments_have_their_items() {
     let passive: Vec<_> = plan.passive_elements().map(|segment| told(segment.items)).collect();
     assert_eq!(passive, [vec!["ref.null func".to_string(), "ref.func 1".into()], vec!["func 0".into()]]);
     assert_eq!(plan.passive_elem_map().collect::<Vec<_>>(), [(1, 0), (3, 1)]);
+    let by_segment: Vec<_> = (0..5).map(|segment| plan.passive_elements_of(segment).map(|found| told(found.items))).collect();
+    assert_eq!(by_segment, [None, Some(passive[0].clone()), None, Some(passive[1].clone()), None]);
+    assert!((0..5).all(|segment| plan.passive_data_of(segment).is_none()));
 }
 
 #[test]
@@ -79,9 +83,24 @@ fn structs_are_those_of_the_target() {
         assert_eq!([of.memory_definition.size, of.table_definition.size, of.global_definition.size, of.tag_definition.size], sizes[5..9]);
         assert_eq!([of.func_ref.size, of.store_context.size, of.static_context.size], sizes[9..]);
         assert_eq!([of.func_ref.array_call, of.func_ref.wasm_call, of.func_ref.vmctx], [0, u32::from(pointer), 3 * u32::from(pointer)]);
+        assert_eq!([of.func_ref.vmctx_size, of.func_ref.type_index_size, of.static_context.magic_size], [u32::from(pointer), 4, 4]);
+        assert_eq!([of.global_import.kind_size, of.global_definition.storage_size, of.store_context.epoch_deadline_size], [8, 16, 8]);
+        assert_eq!(of.store_context.gc_heap_size, of.memory_definition.size);
         let escaping = plan.regions().find(|region| region.name == "module functions").expect("it is there");
         assert_eq!(escaping.size, 2 * of.func_ref.size);
         assert_eq!(plan.startup_func_ref().is_some(), plan.startup() != bobbinazure::ModuleStartup::None);
     }
     assert_eq!((numbers::HEAP_DECLARED, numbers::OF_SECTION), (19, 4));
+}
+
+#[test]
+fn memories_have_their_sizes_in_bytes() {
+    let module = b"\0asm\x01\0\0\0\x05\x06\x02\x01\x01\x03\x04\x02"; // (memory 1 3) (memory i64 2)
+    let plan = Plan::new(module, &Options::default()).expect("it is planned");
+    for memory in plan.memories() {
+        assert_eq!(memory.minimum_byte_size(), Some(memory.minimum_bytes));
+        assert_eq!(memory.maximum_byte_size(), Some(memory.maximum_bytes));
+    }
+    let bytes: Vec<_> = plan.memories().iter().map(|memory| (memory.minimum_bytes, memory.maximum_bytes)).collect();
+    assert_eq!(bytes, [(1 << 16, 3 << 16), (2 << 16, 0u64.wrapping_sub(1 << 16))]);
 }

@@ -1,5 +1,4 @@
-use Rattle.std.proofs.Common.{refl, map, ap, subst, ◌∙◌}
-use Rattle.plan_tables.specs.Bodies.{TellsBodies}
+use Rattle.std.proofs.Common.{refl, map, ap, ◌∙◌}
 use Rattle.plan_tables.specs.Context.{region_told}
 use Rattle.plan_tables.proofs.filling.fill_record.Goals as goal
 
@@ -23,6 +22,6 @@ returns c = record {
   interned = c.in_ok-out-7.ensures;
   structs = c.structs_row-out.ensures;
   items = c.in_ok-fill_items.ensures;
-  bodies = subst (λ inputs. TellsBodies inputs c.in_ok-out-8.field-0) c.as_slice.ensures c.in_ok-out-8.ensures;
+  bodies = c.in_ok-out-8.ensures;
   debug = c.in_ok-out-9.ensures;
 }
