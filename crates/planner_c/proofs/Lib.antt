@@ -1,1 +1,3 @@
+pub mod Nothing
+pub mod Placing
 pub mod Told

@@ -1,20 +1,18 @@
 -- What a record reports of a program: modules that are linked in order, each under a name.
-use Rattle.std.specs.Prelude.{◌≡◌, ◌<◌, ◌≤◌, ◌+◌, ◌⊎◌, ⊤, ℕ, List, [], ◌∷◌, ◌++◌, length, map, take, slice_get, All, Some, IfSome}
+use Rattle.std.specs.Prelude.{◌≡◌, ◌<◌, ◌≤◌, ◌+◌, ◌⊎◌, ⊤, ℕ, List, [], ◌∷◌, length, map, take, slice_get, All, Some}
 use Rattle.std.specs.List.{AllZip, flat_map, sum_by}
 use Rattle.std.specs.Str.{IsUtf8}
-use Rattle.plan.specs.declared.plan.Plan.{Plan}
 use Rattle.plan.specs.declared.error.TranslateError.{TranslateError}
-use Rattle.plan.specs.declared.error.TranslateError.TheVariants as refusal
 use Rattle.plan_text.specs.Refusals.{text_of_refusal}
-use Rattle.translate.specs.Options.{Options}
-use Rattle.translate.specs.Planned.{IsPlanned, HasCause}
+use Rattle.translate.specs.Planned.{IsPlanned}
 use Rattle.translate.specs.Valid.{IsValid}
 use Rattle.wasm_index.specs.Index.{number_of}
 use Rattle.plan_link.specs.declared.answer.ImportAnswer.{ImportAnswer}
 use Rattle.plan_link.specs.declared.answer.ImportAnswer.TheVariants as answer
 use Rattle.plan_link.specs.declared.program.LinkedModule.{LinkedModule}
 use Rattle.plan_link.specs.declared.program.ProgramModule.{ProgramModule}
-use Rattle.plan_link.specs.Answers.{IsBelow}
+use Rattle.plan_link.specs.declared.program_error.ProgramError.{ProgramError}
+use Rattle.plan_link.specs.declared.program_error.ProgramError.TheVariants as error
 use Rattle.plan_link.specs.Lines.{text_of_mismatch}
 use Rattle.plan_link.specs.Program.{IsProgram, ShareIndices, IsDuplicate, IsCrowded, count_types, capacity}
 use Rattle.planner_c.specs.declared.options.PlanOptions.{PlanOptions}
@@ -133,6 +131,12 @@ pub record TellsModule (place : ℕ) (e : TranslateError) (r : ProgramRecord) : 
 pub record TellsCause (cause place : ℕ) (r : ProgramRecord) : Type 0 where
   pub cause_is : (r.cause ≡ cause) × (r.refused ≡ place)
   pub none : (r.refusal ≡ 0) × (r.refusal_detail ≡ 0) × (r.refusal_line.now ≡ [])
+
+-- what the record reports of an error of the linker
+abbrev pub TellsError : ProgramError → ProgramRecord → Type 0
+TellsError (error.Duplicate k) r = TellsCause 2 k r
+TellsError (error.TooManyTypes k) r = TellsCause 3 k r
+TellsError error.OutOfMemory r = ⊥
 
 -- the modules before a position have plans, and the one there is refused
 pub record RefusesModule (o : PlanOptions) (modules : List NamedModule) (r : ProgramRecord) : Type 0 where

@@ -1,6 +1,6 @@
 //! The call from C that links the modules of a program.
 
-ghost use Rattle.std.specs.Prelude.{◌≡◌, ◌≢◌, ◌⊎◌, ◌↔◌, ℕ, List, All};
+ghost use Rattle.std.specs.Prelude.{◌≡◌, ◌≢◌, ◌⊎◌, ◌↔◌, List, All};
 ghost use Rattle.std.specs.List.{AllZip};
 ghost use Rattle.plan.specs.declared.error.TranslateError.TheVariants as refusal;
 ghost use Rattle.plan_link.specs.declared.program.ProgramModule.{ProgramModule as Member};
@@ -8,7 +8,7 @@ ghost use Rattle.plan_link.specs.declared.program_error.ProgramError.TheVariants
 ghost use Rattle.plan_link.specs.Program.{IsPlannedModule, GivesEarlier};
 ghost use Rattle.planner_c.specs.Calls.{AreRight, IsStatus};
 ghost use Rattle.planner_c.specs.Members.{BeginAtZero, IsBetween};
-ghost use Rattle.planner_c.specs.Programs.{HasName, IsValidModule, IsMemberOf, HasNoFault, TellsFound, TellsProgram, LinksProgram, TellsCause, TellsModule, TellsFault, RefusesProgram};
+ghost use Rattle.planner_c.specs.Programs.{HasName, IsValidModule, IsMemberOf, HasNoFault, TellsFound, TellsProgram, LinksProgram, TellsCause, TellsError, TellsModule, TellsFault, RefusesProgram};
 
 use crate::options::{PlanOptions, command_of};
 use crate::program_plans::{RefusedModule, are_named, members_of, plans_of};
@@ -110,13 +110,12 @@ fn tell_linked(alloc: Global, linked: &[LinkedModule], out: &mut ProgramRecord<'
     u32::from(SUCCESS)
 }
 
-/// Puts into a record at which module a program is refused whose modules have plans, and why.
+/// Puts into a record why a program is refused whose modules have plans, and at which module.
 /// Answers 1, or 5 where memory ended and the record is as it was.
 fn tell_fault(refusal: ProgramError, out: &mut ProgramRecord<'_>) -> u32
     ensures statuses { (result ≡ 1) ⊎ (result ≡ 5) }
-    ensures duplicate { (k : ℕ) → refusal ≡ error.Duplicate k → TellsCause 2 k out.new }
-    ensures crowded { (k : ℕ) → refusal ≡ error.TooManyTypes k → TellsCause 3 k out.new }
-    ensures memory { (refusal ≡ error.OutOfMemory) ↔ (result ≡ 5) }
+    ensures told { result ≡ 1 → TellsError refusal out.new }
+    ensures memory { refusal ≡ error.OutOfMemory → result ≡ 5 }
     ensures same { result ≡ 5 → out.new ≡ out.old }
 {
     match refusal {
@@ -128,7 +127,8 @@ fn tell_fault(refusal: ProgramError, out: &mut ProgramRecord<'_>) -> u32
 
 // Puts a cause and a module into a record. Answers 1.
 fn tell_cause(cause: u32, place: usize, out: &mut ProgramRecord<'_>) -> u32
-    ensures { (result ≡ 1) × TellsCause cause place out.new }
+    ensures status { result ≡ 1 }
+    ensures told { TellsCause cause place out.new }
 {
     out.cause = cause;
     out.refused = place;

@@ -29,11 +29,20 @@ pub(crate) fn are_named(modules: &[NamedModule<'_>]) -> bool
     ensures { (result ≡ true) ↔ All HasName modules.now }
 {
     for module in modules {
-        if std::str::from_utf8(module.name).is_err() {
+        if !has_name(module) {
             return false;
         }
     }
     true
+}
+
+fn has_name(module: &NamedModule<'_>) -> bool
+    ensures { (result ≡ true) ↔ HasName «module».now }
+{
+    match std::str::from_utf8(module.name) {
+        Ok(_) => true,
+        Err(_) => false,
+    }
 }
 
 /// The plan of each module, in order, up to the first that is refused.
@@ -68,10 +77,10 @@ fn push_plan<'d>(
     ensures complete { IfErr result (λ why. IsValid (options_of command.now) bytes.now → why ≡ TranslateError.OutOfMemory) }
 {
     let plan = planned(alloc, command, bytes)?;
-    match plans.push(plan) {
-        Ok(()) => Ok(()),
-        Err(_) => Err(TranslateError::OutOfMemory),
-    }
+    let Ok(()) = plans.push(plan) else {
+        return Err(TranslateError::OutOfMemory);
+    };
+    Ok(())
 }
 
 /// The modules as a program: each plan under the name of its module.
@@ -87,21 +96,19 @@ pub(crate) fn members_of<'a, 'd>(
 {
     let mut members = Vec::with_capacity(alloc, modules.len())?;
     for (place, module) in modules.iter().enumerate() {
-        members.push(ProgramModule {
-            name: name_of(module),
-            plan: &plans[place],
-        })?;
+        members.push(member_of(module, &plans[place]))?;
     }
     Ok(members)
 }
 
-// The name of a module that has one in UTF-8.
-fn name_of<'d>(module: &NamedModule<'d>) -> &'d str
+// A plan under the name of its module, which is UTF-8.
+fn member_of<'a, 'd>(module: &NamedModule<'d>, plan: &'a Plan<'d>) -> ProgramModule<'a, 'd>
     requires { HasName «module».now }
-    ensures { result.now ≡ «module».now.name.now }
+    ensures named { IsNamedAs «module».now result }
+    ensures plan { result.plan.now ≡ plan.now }
 {
     match std::str::from_utf8(module.name) {
-        Ok(name) => name,
+        Ok(name) => ProgramModule { name, plan },
         Err(_) => unreachable!(),
     }
 }
