@@ -100,6 +100,6 @@ module _ (links : Links) (program : List ProgramModule) (planned : All IsPlanned
   tells answer.Missing r told = record { kind = told.kind; given = told.given }
   tells (answer.Mismatch rule) r told = record { kind = told.kind; given = told.given }
 
-  pub all-tell : (as : List ImportAnswer) (rs : List ProgramAnswerRecord) → AllZip (TellsAnswer (IsBetween results)) as rs
-      → AllZip (TellsAnswer (IsExportOf program)) as rs
+  pub all-tell : (xs : List ImportAnswer) (rs : List ProgramAnswerRecord) → AllZip (TellsAnswer (IsBetween results)) xs rs
+      → AllZip (TellsAnswer (IsExportOf program)) xs rs
   all-tell = zip-weaker (TellsAnswer (IsBetween results)) (TellsAnswer (IsExportOf program)) tells

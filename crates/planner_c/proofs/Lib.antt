@@ -1,6 +1,6 @@
 pub mod Exported
 pub mod Faults
+pub mod Members
 pub mod Nothing
 pub mod Placing
-pub mod Programs
 pub mod Told
