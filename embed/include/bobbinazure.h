@@ -255,6 +255,13 @@ enum {
     BOBBINAZURE_MISMATCH_TAG_TYPE = 14
 };
 
+/* Why a program is refused: the field `cause`. */
+enum {
+    BOBBINAZURE_CAUSE_MODULE = 1,           /* a module is refused; refusal and its two fields say why */
+    BOBBINAZURE_CAUSE_DUPLICATE = 2,        /* an export has the two names of an export of an earlier module */
+    BOBBINAZURE_CAUSE_TOO_MANY_TYPES = 3    /* the modules have more than 4,294,967,294 interned types */
+};
+
 /* No index; in a table, the null reference. */
 #define BOBBINAZURE_NONE UINT32_MAX
 /* No greatest size. */
@@ -922,6 +929,50 @@ typedef struct {
     BOBBINAZURE_LIST(bobbinazure_import_answer) answers;
 } bobbinazure_link_record;
 
+/* A module of a program, and its name. */
+typedef struct {
+    bobbinazure_bytes name;  /* The name under which later modules import its exports, in UTF-8. */
+    bobbinazure_bytes bytes; /* The bytes of the module. */
+} bobbinazure_named_module;
+
+/* What an import of a program is given. */
+typedef struct {
+    uint32_t answer;        /* From BOBBINAZURE_GIVEN on: 0 given, 1 missing, 2 a mismatch. */
+    /* Of a mismatch the rule that it breaks, from BOBBINAZURE_MISMATCH_KIND on; else 0. */
+    uint32_t rule;
+    /* Where it is given, the number of the module that exports it, from 0 on; else 0. */
+    size_t module;
+    /* Where it is given, the number of the export in that module, from 0 on; else 0. */
+    size_t export_number;
+    bobbinazure_bytes line; /* The text of a mismatch, else empty. It is never freed. */
+} bobbinazure_program_answer;
+
+/* A module of a program that is linked. */
+typedef struct {
+    bobbinazure_span types;   /* Its interned types, in order, a part of types. */
+    bobbinazure_span answers; /* The answer to each of its imports, in order, a part of answers. */
+    size_t first_export;      /* How many exports the modules before it have. */
+} bobbinazure_linked_module;
+
+/* A program of modules that are linked, or why it is refused. */
+typedef struct {
+    /* Why the program is refused, from BOBBINAZURE_CAUSE_MODULE on; 0 where it is linked. */
+    uint32_t cause;
+    /* Why the module is refused that has no plan, as of a plan, with the next two. */
+    uint32_t refusal;
+    uint32_t refusal_detail;
+    /* The line of the refusal, as the program prints it. It is never freed. */
+    bobbinazure_bytes refusal_line;
+    /* The number of the module at which the program is refused, from 0 on; 0 where it is linked. */
+    size_t refused;
+    BOBBINAZURE_LIST(bobbinazure_linked_module) modules; /* The modules, in order. */
+    /* The engine's index of each interned type, module by module. Two types have one index
+       exactly where they are equal. */
+    BOBBINAZURE_LIST(uint32_t) types;
+    /* The answer to each import, module by module. */
+    BOBBINAZURE_LIST(bobbinazure_program_answer) answers;
+} bobbinazure_program;
+
 /* Where and why a module is malformed or not supported. Offsets count the bytes of the module,
    from 0 on. */
 typedef struct {
@@ -1038,6 +1089,23 @@ uint32_t bobbinazure_make_plan_and_text(const uint8_t *bytes, size_t len, const 
 uint32_t bobbinazure_link(const uint8_t *exporter, size_t exporter_len, const uint8_t *importer, size_t importer_len,
                           const uint8_t *as_module, size_t as_module_len, const bobbinazure_options *options,
                           bobbinazure_link_record *links);
+
+/* Links the modules of a program, in order: the imports of each are given by the exports of those before
+ * it, under their module names. An import that is not given refuses nothing: its answer says so.
+ *
+ * The types of all modules are registered together, in a registry of the call: two types have one index
+ * exactly where they are equal. All modules are planned with the options. The names are UTF-8 without
+ * zeros at the end. `program` must come from bobbinazure_program_init. It does not point into the bytes
+ * of the modules.
+ *
+ *   PLANNED        it has the indices of types and an answer for each import; bobbinazure_program_free
+ *                  frees them
+ *   REFUSED        its first five fields say why, and at which module: the first that is refused; if all
+ *                  have plans, the first with too many types; else the first with a duplicate export
+ *   NO_MEMORY      it is unchanged
+ *   WRONG_OPTIONS  it is unchanged; so it is where a name is not UTF-8 */
+uint32_t bobbinazure_link_program(const bobbinazure_named_module *modules, size_t count,
+                                  const bobbinazure_options *options, bobbinazure_program *program);
 
 /* Says where and why bytes are malformed or not supported, for messages: call it after such a refusal.
  *
@@ -1192,6 +1260,18 @@ static inline bobbinazure_link_record bobbinazure_link_init(void) {
     return links;
 }
 
+static inline bobbinazure_program bobbinazure_program_init(void) {
+    static const uint64_t nothing[4] = {0, 0, 0, 0};
+    const void *at = nothing;
+    bobbinazure_program program;
+    memset(&program, 0, sizeof program);
+    memcpy(&program.refusal_line.at, &at, sizeof at);
+    memcpy(&program.modules.at, &at, sizeof at);
+    memcpy(&program.types.at, &at, sizeof at);
+    memcpy(&program.answers.at, &at, sizeof at);
+    return program;
+}
+
 static inline bobbinazure_section_list bobbinazure_sections_init(void) {
     static const uint64_t nothing[4] = {0, 0, 0, 0};
     const void *at = nothing;
@@ -1236,6 +1316,13 @@ static inline void bobbinazure_excess_free(bobbinazure_excess *excess) {
 static inline void bobbinazure_link_free(bobbinazure_link_record *links) {
     if (links->answers.len) free((void *)links->answers.at);
     *links = bobbinazure_link_init();
+}
+
+static inline void bobbinazure_program_free(bobbinazure_program *program) {
+    if (program->modules.len) free((void *)program->modules.at);
+    if (program->types.len) free((void *)program->types.at);
+    if (program->answers.len) free((void *)program->answers.at);
+    *program = bobbinazure_program_init();
 }
 
 static inline void bobbinazure_sections_free(bobbinazure_section_list *list) {

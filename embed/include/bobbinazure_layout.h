@@ -438,6 +438,32 @@ BOBBINAZURE_AT(link_record, refusal_detail, 8);
 BOBBINAZURE_AT(link_record, refusal_line, 16);
 BOBBINAZURE_AT(link_record, answers, 32);
 
+BOBBINAZURE_SIZE(named_module, 32);
+BOBBINAZURE_AT(named_module, name, 0);
+BOBBINAZURE_AT(named_module, bytes, 16);
+
+BOBBINAZURE_SIZE(program_answer, 40);
+BOBBINAZURE_AT(program_answer, answer, 0);
+BOBBINAZURE_AT(program_answer, rule, 4);
+BOBBINAZURE_AT(program_answer, module, 8);
+BOBBINAZURE_AT(program_answer, export_number, 16);
+BOBBINAZURE_AT(program_answer, line, 24);
+
+BOBBINAZURE_SIZE(linked_module, 40);
+BOBBINAZURE_AT(linked_module, types, 0);
+BOBBINAZURE_AT(linked_module, answers, 16);
+BOBBINAZURE_AT(linked_module, first_export, 32);
+
+BOBBINAZURE_SIZE(program, 88);
+BOBBINAZURE_AT(program, cause, 0);
+BOBBINAZURE_AT(program, refusal, 4);
+BOBBINAZURE_AT(program, refusal_detail, 8);
+BOBBINAZURE_AT(program, refusal_line, 16);
+BOBBINAZURE_AT(program, refused, 32);
+BOBBINAZURE_AT(program, modules, 40);
+BOBBINAZURE_AT(program, types, 56);
+BOBBINAZURE_AT(program, answers, 72);
+
 BOBBINAZURE_SIZE(place, 48);
 BOBBINAZURE_AT(place, section, 0);
 BOBBINAZURE_AT(place, section_start, 4);

@@ -1,1 +1,6 @@
+pub mod Exported
+pub mod Faults
+pub mod Members
+pub mod Nothing
+pub mod Placing
 pub mod Told

@@ -1,5 +1,5 @@
-//! The planner for C: calls that fill records with a plan, its text, both, the links of two modules,
-//! or why a module is refused and where.
+//! The planner for C: calls that fill records with a plan, its text, both, the links of two modules
+//! or of a program, or why a module is refused and where.
 //!
 //! Each call returns 0, 1, 2 or 5, and each status has its cause. A record is filled as by
 //! `plan_tables`, and a text is that of the program.
@@ -14,8 +14,8 @@
 //! The caller keeps the module's bytes while it uses a record, and frees the record once.
 //! `bobbinazure_make_plan_and_text` plans only once.
 //!
-//! Read on: `planning`, `linking`, `options`; `embed/include/bobbinazure.h` is the header, and
-//! `embed/README.md` its manual.
+//! Read on: `planning`, `linking`, `program_linking`, `options`; `embed/include/bobbinazure.h` is the
+//! header, and `embed/README.md` its manual.
 #![tactic(auto)]
 
 mod excess;
@@ -24,6 +24,10 @@ mod links;
 mod options;
 mod places;
 mod planning;
+mod program_linking;
+mod program_plans;
+mod program_tables;
+mod programs;
 mod refusals;
 mod rules;
 mod sections;
@@ -36,6 +40,8 @@ pub use links::{ImportAnswerRecord, LinkRecord};
 pub use options::PlanOptions;
 pub use places::{PlaceRecord, bobbinazure_locate};
 pub use planning::{bobbinazure_make_plan, bobbinazure_make_plan_and_text, bobbinazure_make_text};
+pub use program_linking::bobbinazure_link_program;
+pub use programs::{LinkedModuleRecord, NamedModule, ProgramAnswerRecord, ProgramRecord};
 pub use rules::{BrokenRuleRecord, bobbinazure_locate_rule};
 pub use sections::{SectionRow, SectionsRecord, bobbinazure_sections};
 pub use text::TextRecord;

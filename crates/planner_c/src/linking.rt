@@ -151,7 +151,7 @@ fn answer_record(answer: ImportAnswer) -> ImportAnswerRecord
     }
 }
 
-fn mismatch_number(rule: Mismatch) -> u32
+pub(crate) fn mismatch_number(rule: Mismatch) -> u32
     ensures { result ≡ mismatch_number rule }
 {
     match rule {

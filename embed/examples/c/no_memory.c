@@ -28,19 +28,23 @@ void __wrap_free(void *block) {
     __real_free(block);
 }
 
-enum { PLAN, TEXT, BOTH, LINK, KINDS };
+enum { PLAN, TEXT, BOTH, LINK, PROGRAM, KINDS };
 
 static uint32_t call(int kind, const uint8_t *bytes, size_t len, const bobbinazure_options *options) {
     bobbinazure_plan plan = bobbinazure_plan_init();
     bobbinazure_text text = bobbinazure_text_init();
     bobbinazure_link_record links = bobbinazure_link_init();
+    bobbinazure_program program = bobbinazure_program_init();
+    const bobbinazure_named_module twice[] = {{{(const uint8_t *)"m", 1}, {bytes, len}}, {{(const uint8_t *)"n", 1}, {bytes, len}}};
     uint32_t status = kind == PLAN   ? bobbinazure_make_plan(bytes, len, options, &plan)
                       : kind == TEXT ? bobbinazure_make_text(bytes, len, options, &text)
                       : kind == BOTH ? bobbinazure_make_plan_and_text(bytes, len, options, &plan, &text)
-                                     : bobbinazure_link(bytes, len, bytes, len, (const uint8_t *)"m", 1, options, &links);   /* with itself */
+                      : kind == LINK ? bobbinazure_link(bytes, len, bytes, len, (const uint8_t *)"m", 1, options, &links)    /* with itself */
+                                     : bobbinazure_link_program(twice, 2, options, &program);
     bobbinazure_plan_free(&plan);
     bobbinazure_text_free(&text);
     bobbinazure_link_free(&links);
+    bobbinazure_program_free(&program);
     return status;
 }
 

@@ -436,6 +436,32 @@ laid_out! {
         refusal_line 16,
         answers 32,
     }
+    NamedModule: 32 {
+        name 0,
+        bytes 16,
+    }
+    ProgramAnswer: 40 {
+        answer 0,
+        rule 4,
+        module 8,
+        export_number 16,
+        line 24,
+    }
+    LinkedModule: 40 {
+        types 0,
+        answers 16,
+        first_export 32,
+    }
+    ProgramRecord: 88 {
+        cause 0,
+        refusal 4,
+        refusal_detail 8,
+        refusal_line 16,
+        refused 32,
+        modules 40,
+        types 56,
+        answers 72,
+    }
     Place: 48 {
         section 0,
         section_start 4,

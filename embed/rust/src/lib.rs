@@ -16,7 +16,8 @@
 //!
 //! A [`Plan`] borrows the module's bytes, as in the planner itself, and gives its tables back when
 //! it is dropped. [`link`] says of two modules what each import of the second is given by the
-//! exports of the first.
+//! exports of the first, and [`link_program`] of many modules what each import is given by those
+//! before.
 //!
 //! The library is proved; this crate is not: it holds the calls, the layout and `Drop`. It makes no
 //! global state, and calls in several threads do not meet. It has no dependencies.
@@ -37,6 +38,7 @@ mod offsets;
 mod options;
 mod places;
 mod plan;
+mod program;
 mod records;
 mod rows;
 mod sections;
@@ -54,6 +56,7 @@ pub use interned::{GcLayout, GcLayoutKind};
 pub use links::{Answer, LinkError, link};
 pub use places::{BrokenRule, EntryPlace, Excess, Place, locate, locate_excess, locate_rule};
 pub use plan::{Plan, plan_and_text, text};
+pub use program::{Program, ProgramError, ProgramImport, ProgramModule, link_program};
 pub use rows::{
     BranchHint, Context, Entities, Field, FuncRefLayout, FunctionImportLayout, Global, GlobalDefinitionLayout, GlobalImportLayout, LayoutField, Memory,
     MemoryDefinitionLayout, MemoryImportLayout, Operator, Options, StaticContextLayout, StoreContextLayout, Structs, Table, TableDefinitionLayout,

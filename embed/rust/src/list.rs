@@ -48,6 +48,12 @@ impl<T> List<T> {
 }
 
 impl List<u8> {
+    /// Bytes that the library only reads. The list is neither freed nor kept longer than they are
+    /// borrowed.
+    pub(crate) fn lent(bytes: &[u8]) -> Self {
+        List { at: bytes.as_ptr(), len: bytes.len() }
+    }
+
     /// A text of the library's own, which is ASCII and never freed.
     pub(crate) fn as_text(&self) -> &'static str {
         // SAFETY: the text stands in the library itself.

@@ -347,3 +347,12 @@ pub const MISMATCH_GLOBAL_MUTABILITY: u32 = 12;
 pub const MISMATCH_GLOBAL_TYPE: u32 = 13;
 /// mismatch tag type
 pub const MISMATCH_TAG_TYPE: u32 = 14;
+
+// Why a program is refused: the field `cause`.
+
+/// a module is refused; refusal and its two fields say why
+pub const CAUSE_MODULE: u32 = 1;
+/// an export has the two names of an export of an earlier module
+pub const CAUSE_DUPLICATE: u32 = 2;
+/// the modules have more than 4,294,967,294 interned types
+pub const CAUSE_TOO_MANY_TYPES: u32 = 3;

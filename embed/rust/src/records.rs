@@ -276,6 +276,68 @@ pub(crate) struct LinkRecord {
     pub(crate) answers: List<ImportAnswer>,
 }
 
+/// A module of a program, and its name.
+#[repr(C)]
+#[derive(Default)]
+pub(crate) struct NamedModule {
+    /// The name under which later modules import its exports, in UTF-8.
+    pub(crate) name: List<u8>,
+    /// The bytes of the module.
+    pub(crate) bytes: List<u8>,
+}
+
+/// What an import of a program is given.
+#[repr(C)]
+#[derive(Default)]
+pub(crate) struct ProgramAnswer {
+    /// From [`numbers::GIVEN`](crate::numbers::GIVEN) on: 0 given, 1 missing, 2 a mismatch.
+    pub(crate) answer: u32,
+    /// Of a mismatch the rule that it breaks, from
+    /// [`numbers::MISMATCH_KIND`](crate::numbers::MISMATCH_KIND) on; else 0.
+    pub(crate) rule: u32,
+    /// Where it is given, the number of the module that exports it, from 0 on; else 0.
+    pub(crate) module: usize,
+    /// Where it is given, the number of the export in that module, from 0 on; else 0.
+    pub(crate) export_number: usize,
+    /// The text of a mismatch, else empty. It is never freed.
+    pub(crate) line: List<u8>,
+}
+
+/// A module of a program that is linked.
+#[repr(C)]
+#[derive(Clone, Copy, Debug, PartialEq, Eq, Hash, Default)]
+pub(crate) struct LinkedModule {
+    /// Its interned types, in order, a part of types.
+    pub(crate) types: Span,
+    /// The answer to each of its imports, in order, a part of answers.
+    pub(crate) answers: Span,
+    /// How many exports the modules before it have.
+    pub(crate) first_export: usize,
+}
+
+/// A program of modules that are linked, or why it is refused.
+#[repr(C)]
+#[derive(Default)]
+pub(crate) struct ProgramRecord {
+    /// Why the program is refused, from [`numbers::CAUSE_MODULE`](crate::numbers::CAUSE_MODULE) on;
+    /// 0 where it is linked.
+    pub(crate) cause: u32,
+    /// Why the module is refused that has no plan, as of a plan, with the next two.
+    pub(crate) refusal: u32,
+    pub(crate) refusal_detail: u32,
+    /// The line of the refusal, as the program prints it. It is never freed.
+    pub(crate) refusal_line: List<u8>,
+    /// The number of the module at which the program is refused, from 0 on; 0 where it is linked.
+    pub(crate) refused: usize,
+    /// The modules, in order.
+    pub(crate) modules: List<LinkedModule>,
+    /// The engine's index of each interned type, module by module. Two types have one index exactly
+    /// where they are equal.
+    pub(crate) types: List<u32>,
+    /// The answer to each import, module by module.
+    pub(crate) answers: List<ProgramAnswer>,
+}
+
 /// The sections of a module.
 #[repr(C)]
 #[derive(Default)]
