@@ -8,7 +8,7 @@ mod Refusals
 mod AllPlanned
 pub mod Counts
 mod LayoutsInTurn
-mod ObjectSizes
+pub mod ObjectSizes
 mod OnePlan
 mod PlansFit
 mod Planning
@@ -16,8 +16,8 @@ mod Printable
 mod WholeInput
 mod Causes
 pub mod FewTypes
-mod DataBytes
+pub mod DataBytes
 mod ImagesTotal
-mod EntryCounts
+pub mod EntryCounts
 mod CellCounts
 pub mod Costs
