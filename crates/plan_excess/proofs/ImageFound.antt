@@ -20,7 +20,8 @@ use Rattle.translate.specs.Planned.{KeepsAnd, HasMuchData}
 use Rattle.init_plan.proofs.Holding.{memories_same}
 use Rattle.translate.proofs.DataBytes.{data-few}
 use Rattle.translate.proofs.EntryCounts.{bytes-few}
-use Rattle.plan_excess.specs.Past.{ImagesPassAt, PassesWithImage}
+use Rattle.memory_images.specs.Past.{ImagesPassAt}
+use Rattle.plan_excess.specs.Past.{PassesWithImage}
 
 module _ (i : InitOptions) {bytes : List ℕ} {t : ModuleTranslation} {b : BuilderState} (told : IsTranslated i.tunables (index_of 0) 0 bytes t b) where
   abbrev m : Module
