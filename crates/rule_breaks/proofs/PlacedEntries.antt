@@ -1,6 +1,6 @@
 -- The entry of a section that a broken rule has is there.
-use Rattle.std.proofs.Common.{◌≡◌, ℕ, zero, suc, ◌+◌, ◌<◌, ◌≤◌, List, [], ◌∷◌, length, map, Option, Some, All, refl, sym, ap, subst, arith, inl, inr}
-use Rattle.std.specs.Prelude.{◌≢◌, ◌⊎◌, slice_get}
+use Rattle.std.proofs.Common.{◌≡◌, ℕ, zero, suc, ◌+◌, ◌<◌, ◌≤◌, List, [], ◌∷◌, length, map, Option, Some, None, Result, Ok, Err, All, refl, sym, ap, subst, arith, inl, inr}
+use Rattle.std.specs.Prelude.{◌≢◌, ◌⊎◌, ◌^◌, IfOk, slice_get}
 use Rattle.std.specs.List.{flat_map}
 use Rattle.std.proofs.lemmas.List.{length-append, length-map, take_all}
 use Rattle.std.proofs.lemmas.List.Elements.{All-head, All-tail}
@@ -18,15 +18,17 @@ use Rattle.rule_spec.specs.Rules.{KeepsBefore}
 use Rattle.refusal_place.specs.declared.kind.SectionKind.{SectionKind}
 use Rattle.refusal_place.specs.declared.kind.SectionKind.TheVariants as kind
 use Rattle.refusal_place.specs.Kinds.{id_of}
-use Rattle.refusal_place.specs.Listed.{listed_count}
+use Rattle.refusal_place.specs.Listed.{listed_count, ListsAtMost, HasNoSection}
 use Rattle.rule_breaks.specs.declared.lists.ModuleList.{ModuleList}
 use Rattle.rule_breaks.specs.declared.lists.ModuleList.TheVariants as list
 use Rattle.rule_breaks.specs.declared.lists.Break.{Break}
+use Rattle.rule_breaks.specs.declared.list_places.EntryPlace.{EntryPlace}
 use Rattle.rule_breaks.specs.declared.refused.BrokenRule.{BrokenRule}
 use Rattle.rule_breaks.specs.Breaks.{IsFirstBreak}
-use Rattle.rule_breaks.specs.BrokenAt.{HasSectionEntry, IsBrokenAt}
+use Rattle.rule_breaks.specs.BrokenAt.{HasSectionEntry, IsBrokenAt, IsInSection}
 use Rattle.rule_breaks.specs.Faults.{IsFaultOf}
 use Rattle.rule_breaks.specs.Refused.{BreaksFirst}
+use Rattle.rule_breaks.specs.ListPlaces.{LacksIfRead}
 use Rattle.rule_breaks.specs.Listed.{IsListed}
 use Rattle.rule_breaks.specs.SectionEntries.{IsGroupOf, IsEntryOf, IsInIndexSpace}
 
@@ -154,6 +156,26 @@ pub number_there : (m : Module) (s : SectionKind) (e : ℕ) → (s ≡ kind.Star
     → All (λ p. section_id p ≢ id_of s) m → ⊥
 number_there m s e (inl is) has none = start_there m e (rw is at has) (rw is at none)
 number_there m s e (inr is) has none = data_count_there m e (rw is at has) (rw is at none)
+
+-- ---- so it is found where there is one
+
+pub none_number : {E : Type 0} (bytes : List ℕ) (s : SectionKind) (e : ℕ) → (s ≡ kind.Start) ⊎ (s ≡ kind.DataCount) → (r : Result (Option ℕ) E)
+    → IfOk r (λ place. place ≡ None → HasNoSection bytes s) → IfOk r (λ place. place ≡ None → IsInSection bytes s e → ⊥)
+none_number bytes s e is (Ok place) none = λ at r. number_there r.of s e is r.has (none at r.few r.of r.spelled r.no_interface_types)
+none_number bytes s e is (Err x) none = tt
+
+pub none_listed : {E : Type 0} (bytes : List ℕ) (s : SectionKind) (e : ℕ) → s ≢ kind.Start → s ≢ kind.DataCount → (r : Result (Option ℕ) E)
+    → IfOk r (λ place. place ≡ None → ListsAtMost bytes s e) → IfOk r (λ place. place ≡ None → IsInSection bytes s e → ⊥)
+none_listed bytes s e start count (Ok place) none = λ at r. listed_there r.of s e start count r.has (none at r.few r.of r.spelled r.no_interface_types)
+none_listed bytes s e start count (Err x) none = tt
+
+-- the module that was read is the one that is spelled
+pub lacks_read : {E : Type 0} (bytes : List ℕ) (m : Module) (b : Break)
+    → (length bytes < 2 ^ 30 → (n : Module) → Spells bytes n → HasNoInterfaceTypes n → m ≡ n) → (r : Result (Option EntryPlace) E)
+    → IfOk r (λ place. place ≡ None → ¬ IsListed m b.list b.entry) → IfOk r (λ place. place ≡ None → LacksIfRead bytes b)
+lacks_read bytes m b same (Ok place) none = λ at short n spelled plain listed.
+    none at (subst (λ (k : Module). IsListed k b.list b.entry) (sym (same short n spelled plain)) listed)
+lacks_read bytes m b same (Err x) none = tt
 
 -- ---- the broken rule, with where the entry begins
 

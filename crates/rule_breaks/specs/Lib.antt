@@ -7,6 +7,7 @@ pub mod Listed
 pub mod ImportKinds
 pub mod SectionEntries
 pub mod Refused
+pub mod ListPlaces
 pub mod BrokenAt
 pub mod Named
 pub mod Faults

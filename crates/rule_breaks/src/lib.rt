@@ -28,6 +28,8 @@
 //! }
 //! ```
 //!
+//! `list_entry_place` says the same of any entry of a list, whether a rule is broken or not.
+//!
 //! Types are numbered and lists gathered again, and the lists of one rule searched once. Modules
 //! that are accepted are not searched.
 //!
@@ -56,6 +58,7 @@ mod forms;
 mod globals;
 mod indices;
 mod limits;
+mod list_places;
 mod lists;
 mod named;
 mod numbers;
@@ -74,6 +77,7 @@ pub use fault::{ExpressionPlace, IndexSpace, RuleFault};
 pub use fault_examples::worked_faults;
 pub use faults::{fault_of_break, rule_fault};
 pub use forms::locate_break;
+pub use list_places::{EntryPlace, list_entry_place};
 pub use lists::{Break, ModuleList};
 pub use refused::{BrokenRule, locate_broken_rule};
 pub use worked::{worked_breaks, worked_section_entries};

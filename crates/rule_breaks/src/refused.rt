@@ -8,22 +8,20 @@ ghost use Rattle.rule_spec.specs.Rules.{KeepsBefore};
 ghost use Rattle.form_data.specs.Views.{module_of};
 ghost use Rattle.rule_breaks.specs.Breaks.{IsFirstBreak};
 ghost use Rattle.rule_breaks.specs.FaultTexts.{broken_text};
-ghost use Rattle.rule_breaks.specs.BrokenAt.{IsBrokenAt, IsInSection};
+ghost use Rattle.rule_breaks.specs.BrokenAt.{IsBrokenAt};
 ghost use Rattle.rule_breaks.specs.Listed.{IsListed};
 ghost use Rattle.rule_breaks.specs.Refused.{BreaksFirst, KeepsIfRead};
-ghost use Rattle.rule_breaks.specs.SectionEntries.{BeginsAt};
 
 use crate::fault::RuleFault;
 use crate::faults::fault_of_break;
 use crate::forms::locate_break;
+use crate::list_places::entry_place_in;
 use crate::lists::Break;
-use crate::section_entries::{SectionEntry, section_entry};
 use entity_map::OutOfMemory;
 use form_data::Form;
-use form_lists::Source;
 use form_reader::{ReadError, read_module};
 use form_rules::{CheckError, check};
-use refusal_place::{SectionKind, contents_place, entry_place};
+use refusal_place::SectionKind;
 use rule_spec::Rule;
 use std::alloc::Global;
 use std::fmt;
@@ -101,35 +99,16 @@ fn broken_at(
     requires first { IsFirstBreak rule (lists_of_module (module_of form.now)) place.list place.entry }
     ensures { IfOk result (IsBrokenAt bytes.now (module_of form.now) rule place) }
 {
-    let SectionEntry { section, entry } = section_entry(alloc, Source::Form(form), place)?;
-    let byte = section_entry_place(alloc, bytes, section, entry)?;
+    let Some(found) = entry_place_in(alloc, bytes, form, place)? else {
+        unreachable!();
+    };
     let fault = fault_of_break(alloc, form, rule, place)?;
     Ok(BrokenRule {
         rule,
         place,
-        section,
-        section_entry: entry,
-        byte,
+        section: found.section,
+        section_entry: found.section_entry,
+        byte: found.byte,
         fault,
     })
-}
-
-/// The offset at which the entry of a section begins, of a module that has it.
-fn section_entry_place(
-    alloc: Global,
-    bytes: &[u8],
-    section: SectionKind,
-    entry: u32,
-) -> Result<u32, OutOfMemory>
-    requires { IsInSection bytes.now section entry }
-    ensures { IfOk result (BeginsAt bytes.now section entry) }
-{
-    let place = match section {
-        SectionKind::Start | SectionKind::DataCount => contents_place(alloc, bytes, section)?,
-        _ => entry_place(alloc, bytes, section, entry)?,
-    };
-    match place {
-        Some(byte) => Ok(byte),
-        None => unreachable!(),
-    }
 }

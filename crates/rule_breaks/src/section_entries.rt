@@ -1,6 +1,6 @@
 //! The entry of a section that has an entry of a list.
 
-ghost use Rattle.std.specs.Prelude.{◌≡◌, ◌<◌, length, IfOk};
+ghost use Rattle.std.specs.Prelude.{◌≡◌, ◌≢◌, ◌≤◌, None, length, IfOk, IfSome};
 ghost use Rattle.wasm_spec.specs.Module.{groups, imports, types};
 ghost use Rattle.form_lists.specs.Source.{source_module};
 ghost use Rattle.rule_breaks.specs.ImportKinds.{is_import_of, IsIndexed};
@@ -24,21 +24,33 @@ pub(crate) struct SectionEntry {
     pub entry: u32,
 }
 
-/// The entry of a section that has the entry of the list.
+/// The entry of a section that has the entry of the list; none only where the list has no such
+/// entry.
 pub(crate) fn section_entry(
     alloc: Global,
     source: Source<'_, '_>,
     place: Break,
-) -> Result<SectionEntry, AllocError>
-    requires { IsListed (source_module source) place.list place.entry }
+) -> Result<Option<SectionEntry>, AllocError>
+    ensures found { IfOk result (λ e. IfSome e (λ e. IsEntryOf (source_module source.entry) place.list place.entry e.section e.entry)) }
+    ensures none { IfOk result (λ e. e ≡ None → ¬ IsListed (source_module source.entry) place.list place.entry) }
+{
+    match place.list {
+        ModuleList::Types => match group_of_type(alloc, source, place.entry)? {
+            Some(group) => Ok(Some(entry_in(SectionKind::Type, group))),
+            None => Ok(None),
+        },
+        _ => Ok(Some(other_entry(source, place)?)),
+    }
+}
+
+/// The entry of a section that has the entry of a list other than that of types.
+fn other_entry(source: Source<'_, '_>, place: Break) -> Result<SectionEntry, AllocError>
+    requires { place.list ≢ ModuleList.Types }
     ensures { IfOk result (λ e. IsEntryOf (source_module source.entry) place.list place.entry e.section e.entry) }
 {
     let entry = place.entry;
     match place.list {
-        ModuleList::Types => Ok(SectionEntry {
-            section: SectionKind::Type,
-            entry: group_of_type(alloc, source, entry)?,
-        }),
+        ModuleList::Types => unreachable!(),
         ModuleList::Functions => {
             indexed_entry(source, ExternalKind::Func, SectionKind::Function, entry)
         }
@@ -68,10 +80,14 @@ fn entry_in(section: SectionKind, entry: u32) -> SectionEntry
     SectionEntry { section, entry }
 }
 
-/// The recursion group that has the type with this index.
-fn group_of_type(alloc: Global, source: Source<'_, '_>, index: u32) -> Result<u32, AllocError>
-    requires { index < length (types (source_module source)) }
-    ensures { IfOk result (IsGroupOf (groups (source_module source.entry)) index) }
+/// The recursion group that has the type with this index; none where there is no such type.
+fn group_of_type(
+    alloc: Global,
+    source: Source<'_, '_>,
+    index: u32,
+) -> Result<Option<u32>, AllocError>
+    ensures found { IfOk result (λ group. IfSome group (IsGroupOf (groups (source_module source.entry)) index)) }
+    ensures none { IfOk result (λ group. group ≡ None → length (types (source_module source.entry)) ≤ index) }
 {
     let mut left = index as usize;
     let mut number = 0;
@@ -79,12 +95,12 @@ fn group_of_type(alloc: Global, source: Source<'_, '_>, index: u32) -> Result<u3
     while groups.advance()? {
         let count = groups.entry().types.as_slice().len();
         if left < count {
-            return Ok(number);
+            return Ok(Some(number));
         }
         left -= count;
         number = next_number(number)?;
     }
-    unreachable!()
+    Ok(None)
 }
 
 /// The import that has this index of an index space, or the entry that does of the section that

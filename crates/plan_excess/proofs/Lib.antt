@@ -1,0 +1,9 @@
+pub mod Origins
+pub mod EachInterned
+pub mod Read
+pub mod LargeTypes
+pub mod LargeFound
+pub mod Overflowing
+pub mod ImageFound
+pub mod Causes
+pub mod Placing

@@ -1,0 +1,5 @@
+pub mod Large
+pub mod Past
+pub mod Excess
+pub mod ExcessTexts
+pub mod Found
