@@ -11,17 +11,18 @@
  *
  * Link libbobbinazure.a. embed/README.md has a complete example and a table of the fields.
  *
- * The library keeps no state between calls. Several threads may call it at once: a call reads its own
- * arguments and writes its own results. Memory comes from malloc. The caller owns what a call returns,
- * and `.._free` frees it. Bodies and types of references are not validated.
+ * The library keeps no state between calls. Several threads may call it at once: a call reads its
+ * own arguments and writes its own results. Memory comes from malloc. The caller owns what a call
+ * returns, and `.._free` frees it. Bodies and types of references are not validated.
  *
- * No pointer that is passed may be null, also where its length is 0. A record begins as its `.._init`
- * returns it; one of zeros has null pointers. `.._free` leaves it so again: it may be freed twice, and
- * filled again. Of a record that was copied, free one copy.
+ * No pointer that is passed may be null, also where its length is 0. A record begins as its
+ * `.._init` returns it; one of zeros has null pointers. `.._free` leaves it so again: it may be
+ * freed twice, and filled again. Of a record that was copied, free one copy.
  *
- * Images: if a kept element segment (`elements`) can trap, write the elements before you map images, or
- * make the instance's memories zeros after such a trap: code in an imported table could see data that is
- * never written. If you map no image and write each segment yourself, there is no exception. */
+ * Images: if a kept element segment (`elements`) can trap, write the elements before you map
+ * images, or make the instance's memories zeros after such a trap: code in an imported table could
+ * see data that is never written. If you map no image and write each segment yourself, there is no
+ * exception. */
 #ifndef BOBBINAZURE_H
 #define BOBBINAZURE_H
 
@@ -215,8 +216,9 @@ enum {
     BOBBINAZURE_EXN_OBJECT = 2
 };
 
-/* The objects of a collected heap, in bytes: the size of the header, and where the length of an array and
- * the tag of an exception begin. The two collectors are those of the option `collector`. */
+/* The objects of a collected heap, in bytes: the size of the header, and where the length of an
+ * array and the tag of an exception begin. The two collectors are those of the option
+ * `collector`. */
 enum {
     BOBBINAZURE_DRC_HEADER_SIZE = 24,
     BOBBINAZURE_DRC_ARRAY_LENGTH = 24,
@@ -267,8 +269,8 @@ enum {
 /* No greatest size. */
 #define BOBBINAZURE_UNBOUNDED UINT64_MAX
 
-/* Bytes that are not freed by themselves. They are of the module, of the library, or of a row that says
- * whether the plan made them. */
+/* Bytes that are not freed by themselves. They are of the module, of the library, or of a row that
+ * says whether the plan made them. */
 typedef struct { const uint8_t *at; size_t len; } bobbinazure_bytes;
 
 /* A list, and how many items it has. */
@@ -358,10 +360,11 @@ typedef struct {
     uint64_t minimum;       /* The least size, in pages. */
     /* The greatest size, in pages; BOBBINAZURE_UNBOUNDED where there is none. */
     uint64_t maximum;
-    /* The least size, in bytes; BOBBINAZURE_UNBOUNDED also where it is more. */
+    /* The least size, in bytes; BOBBINAZURE_UNBOUNDED where it has more bytes than that. */
     uint64_t minimum_bytes;
-    /* The greatest size, in bytes, as minimum_bytes. Where there is none in pages, what
-       addresses reach, or the least size if that is more. */
+    /* The greatest size, in bytes; BOBBINAZURE_UNBOUNDED where it has more bytes than that.
+       Without a greatest size in pages it is what addresses reach, or the least size if that is
+       more. */
     uint64_t maximum_bytes;
     uint8_t page_size_log2; /* The page size as an exponent of 2: 0 or 16. */
     uint8_t shared;         /* Whether threads may share it. */
@@ -553,7 +556,7 @@ typedef struct {
     uint32_t trampoline; /* The interned type of its trampoline. */
 } bobbinazure_trampoline;
 
-/* An imported function. */
+/* Where the fields of an imported function begin, and their sizes, in bytes. */
 typedef struct {
     uint32_t size;            /* Its size. */
     uint32_t wasm_call;       /* The pointer to its code for calls from compiled code. */
@@ -564,7 +567,7 @@ typedef struct {
     uint32_t vmctx_size;      /* The size of vmctx. */
 } bobbinazure_function_import_layout;
 
-/* An imported table. */
+/* Where the fields of an imported table begin, and their sizes, in bytes. */
 typedef struct {
     uint32_t size;       /* Its size. */
     uint32_t from;       /* The pointer to its definition. */
@@ -575,7 +578,7 @@ typedef struct {
     uint32_t index_size; /* The size of index. */
 } bobbinazure_table_import_layout;
 
-/* An imported memory. */
+/* Where the fields of an imported memory begin, and their sizes, in bytes. */
 typedef struct {
     uint32_t size;       /* Its size. */
     uint32_t from;       /* The pointer to its definition. */
@@ -586,7 +589,7 @@ typedef struct {
     uint32_t index_size; /* The size of index. */
 } bobbinazure_memory_import_layout;
 
-/* An imported tag. */
+/* Where the fields of an imported tag begin, and their sizes, in bytes. */
 typedef struct {
     uint32_t size;       /* Its size. */
     uint32_t from;       /* The pointer to its definition. */
@@ -597,7 +600,7 @@ typedef struct {
     uint32_t index_size; /* The size of index. */
 } bobbinazure_tag_import_layout;
 
-/* An imported global. */
+/* Where the fields of an imported global begin, and their sizes, in bytes. */
 typedef struct {
     uint32_t size;       /* Its size. */
     uint32_t from;       /* The pointer to its definition. */
@@ -608,7 +611,7 @@ typedef struct {
     uint32_t kind_size;  /* The size of kind. */
 } bobbinazure_global_import_layout;
 
-/* A memory. */
+/* Where the fields of a memory begin, and their sizes, in bytes. */
 typedef struct {
     uint32_t size;                /* Its size. */
     uint32_t base;                /* The pointer to its first byte. */
@@ -617,7 +620,7 @@ typedef struct {
     uint32_t current_length_size; /* The size of current_length. */
 } bobbinazure_memory_definition_layout;
 
-/* A table. */
+/* Where the fields of a table begin, and their sizes, in bytes. */
 typedef struct {
     uint32_t size;                  /* Its size. */
     uint32_t base;                  /* The pointer to its first cell. */
@@ -626,21 +629,21 @@ typedef struct {
     uint32_t current_elements_size; /* The size of current_elements. */
 } bobbinazure_table_definition_layout;
 
-/* A global. */
+/* Where the fields of a global begin, and their sizes, in bytes. */
 typedef struct {
     uint32_t size;         /* Its size. */
     uint32_t storage;      /* Its value, in 16 bytes. */
     uint32_t storage_size; /* The size of storage. */
 } bobbinazure_global_definition_layout;
 
-/* A tag. */
+/* Where the fields of a tag begin, and their sizes, in bytes. */
 typedef struct {
     uint32_t size;            /* Its size. */
     uint32_t type_index;      /* Its type, by the index of the engine. */
     uint32_t type_index_size; /* The size of type_index. */
 } bobbinazure_tag_definition_layout;
 
-/* A reference to a function. */
+/* Where the fields of a reference to a function begin, and their sizes, in bytes. */
 typedef struct {
     uint32_t size;            /* Its size. */
     uint32_t array_call;      /* The pointer to its code for calls with an array of values. */
@@ -653,7 +656,7 @@ typedef struct {
     uint32_t vmctx_size;      /* The size of vmctx. */
 } bobbinazure_func_ref_layout;
 
-/* The context of a store. */
+/* Where the fields of the context of a store begin, and their sizes, in bytes. */
 typedef struct {
     uint32_t size;                              /* Its size. */
     uint32_t fuel_consumed;                     /* The fuel that was consumed. */
@@ -670,7 +673,8 @@ typedef struct {
     uint32_t last_wasm_exit_trampoline_fp_size; /* The size of last_wasm_exit_trampoline_fp. */
 } bobbinazure_store_context_layout;
 
-/* The part of a context that each module has. */
+/* Where the fields of the part of a context that all modules have begin, and their sizes, in
+   bytes. */
 typedef struct {
     uint32_t size;                   /* Where what depends on the module begins. */
     uint32_t magic;                  /* The number by which a context is recognised. */
@@ -714,14 +718,14 @@ typedef struct {
 /* A region of the context. */
 typedef struct {
     uint32_t begin;         /* Where in the context it begins, in bytes. */
-    uint32_t size;          /* In bytes. */
-    bobbinazure_bytes name; /* What it holds, in ASCII. */
+    uint32_t size;          /* Its size, in bytes. */
+    bobbinazure_bytes name; /* Its name, which says what it holds, in ASCII. */
 } bobbinazure_region;
 
 /* The name of a function. */
 typedef struct {
     uint32_t function;      /* The function, by its index. */
-    bobbinazure_bytes name; /* In the module's bytes, in UTF-8. */
+    bobbinazure_bytes name; /* Its name, in the module's bytes, in UTF-8. */
 } bobbinazure_function_name;
 
 /* Constant expressions. */
@@ -732,9 +736,11 @@ typedef struct {
 
 /* The items of element segments. */
 typedef struct {
-    BOBBINAZURE_LIST(bobbinazure_items) rows; /* Of each segment, in order. */
-    BOBBINAZURE_LIST(uint32_t) functions;     /* Functions by their indices, end to end. */
-    bobbinazure_expressions expressions;      /* The expressions of all segments. */
+    BOBBINAZURE_LIST(bobbinazure_items) rows; /* The items of each segment, in order. */
+    /* The items that are functions, by their indices, end to end. */
+    BOBBINAZURE_LIST(uint32_t) functions;
+    /* The items that are constant expressions, end to end. */
+    bobbinazure_expressions expressions;
 } bobbinazure_element_items;
 
 /* The body of a function. */
@@ -743,14 +749,14 @@ typedef struct {
     bobbinazure_bytes bytes;
     /* Its code, behind its locals, up to the end of the body: a part of the module's bytes. */
     bobbinazure_bytes code;
-    bobbinazure_span locals; /* Its locals, a part of locals. */
+    bobbinazure_span locals; /* Its locals, a part of the plan's list locals. */
 } bobbinazure_body;
 
 /* The name of a local. */
 typedef struct {
     uint32_t function;      /* The function, by its index. */
     uint32_t local;         /* The local, by its index; the parameters come first. */
-    bobbinazure_bytes name; /* In the module's bytes, in UTF-8. */
+    bobbinazure_bytes name; /* Its name, in the module's bytes, in UTF-8. */
 } bobbinazure_local_name;
 
 /* A plan, or why there is none. */
@@ -801,7 +807,7 @@ typedef struct {
     BOBBINAZURE_LIST(uint32_t) escapes;
     /* The interned types of the functions that escape, each once. */
     BOBBINAZURE_LIST(uint32_t) signatures;
-    /* The memories, imported ones first, as of the next three. */
+    /* The memories, imported ones first. The next three lists are of the other kinds, likewise. */
     BOBBINAZURE_LIST(bobbinazure_memory) memories;
     BOBBINAZURE_LIST(bobbinazure_table) tables;
     BOBBINAZURE_LIST(bobbinazure_global) globals;
@@ -830,19 +836,22 @@ typedef struct {
     BOBBINAZURE_LIST(bobbinazure_hints) hints;
     /* The branch hints, function by function, those of a function in order. */
     BOBBINAZURE_LIST(bobbinazure_branch_hint) branch_hints;
-    /* The element segments that are passive, in order. */
+    /* Which segments of the element section are passive, in order. */
     BOBBINAZURE_LIST(bobbinazure_passive_segment) passive_segments;
     /* The defined globals that begin as a known value. */
     BOBBINAZURE_LIST(bobbinazure_global_value) global_values;
     /* The defined globals that begin as the value of an expression, each by its number among the
        defined ones. */
     BOBBINAZURE_LIST(uint32_t) expressed_globals;
-    bobbinazure_expressions global_expressions;                 /* Of each of expressed_globals. */
-    /* Of the offset of each of segments; no operators where the offset is planned. */
+    /* The expression of each of expressed_globals. */
+    bobbinazure_expressions global_expressions;
+    /* The offset of each of segments, as an expression; it has no operators where the offset is
+       planned. */
     bobbinazure_expressions segment_places;
-    /* Of the offset of each of elements. */
+    /* The offset of each of elements, as an expression. */
     bobbinazure_expressions element_places;
-    /* Of the first value of each defined table; no operators where its cells begin as null. */
+    /* The first value of the cells of each defined table; it has no operators where they begin
+       as null. */
     bobbinazure_expressions table_values;
     BOBBINAZURE_LIST(bobbinazure_import) imports;               /* The imports, in order. */
     /* The names of imports, end to end, in UTF-8. */
@@ -863,10 +872,11 @@ typedef struct {
     BOBBINAZURE_LIST(bobbinazure_trampoline) trampolines;
     /* The text of the module's name, in UTF-8. */
     BOBBINAZURE_LIST(uint8_t) module_text;
-    /* The structs that compiled code reads. */
+    /* The sizes of the structs that compiled code reads, and where their fields begin. */
     bobbinazure_structs structs;
-    bobbinazure_element_items element_items;                    /* Of each of elements. */
-    bobbinazure_element_items passive_items;                    /* Of each of passive_elements. */
+    bobbinazure_element_items element_items;                    /* The items of each of elements. */
+    /* The items of each of passive_elements. */
+    bobbinazure_element_items passive_items;
     /* The body of each defined function, in order. */
     BOBBINAZURE_LIST(bobbinazure_body) bodies;
     /* The locals of bodies, end to end, in runs of one type. */
@@ -876,8 +886,8 @@ typedef struct {
     /* The names of locals from the custom section name, by functions and then by locals. This
        list and the next two are empty without native_debug. */
     BOBBINAZURE_LIST(bobbinazure_local_name) local_names;
-    /* Of each defined function its locals, a part of the next list. Its parameters are those of
-       its type, as of functions. */
+    /* The locals of each defined function, a part of the next list. Its parameters are those of
+       its type, which functions names. */
     BOBBINAZURE_LIST(bobbinazure_span) function_metadata;
     /* The locals of functions, end to end, in runs of one interned type. */
     BOBBINAZURE_LIST(bobbinazure_locals) metadata_locals;
@@ -910,7 +920,8 @@ typedef struct {
 
 /* What an import is given. */
 typedef struct {
-    uint32_t answer;        /* From BOBBINAZURE_GIVEN on: 0 given, 1 missing, 2 a mismatch. */
+    /* What it is, from BOBBINAZURE_GIVEN on: 0 given, 1 missing, 2 a mismatch. */
+    uint32_t answer;
     /* Where it is given, the number of the export, from 0 on; of a mismatch the rule that it
        breaks, from BOBBINAZURE_MISMATCH_KIND on; else 0. */
     uint32_t detail;
@@ -921,7 +932,8 @@ typedef struct {
 typedef struct {
     /* 1 where the first module is refused, 2 where the second is; 0 where both are planned. */
     uint32_t refused;
-    uint32_t refusal; /* Why that module is refused, as of a plan, with the next two. */
+    /* Why that module is refused: this field and the next two are those of a plan. */
+    uint32_t refusal;
     uint32_t refusal_detail;
     /* The line of the refusal, as the program prints it. It is never freed. */
     bobbinazure_bytes refusal_line;
@@ -937,7 +949,8 @@ typedef struct {
 
 /* What an import of a program is given. */
 typedef struct {
-    uint32_t answer;        /* From BOBBINAZURE_GIVEN on: 0 given, 1 missing, 2 a mismatch. */
+    /* What it is, from BOBBINAZURE_GIVEN on: 0 given, 1 missing, 2 a mismatch. */
+    uint32_t answer;
     /* Of a mismatch the rule that it breaks, from BOBBINAZURE_MISMATCH_KIND on; else 0. */
     uint32_t rule;
     /* Where it is given, the number of the module that exports it, from 0 on; else 0. */
@@ -949,16 +962,19 @@ typedef struct {
 
 /* A module of a program that is linked. */
 typedef struct {
-    bobbinazure_span types;   /* Its interned types, in order, a part of types. */
-    bobbinazure_span answers; /* The answer to each of its imports, in order, a part of answers. */
-    size_t first_export;      /* How many exports the modules before it have. */
+    /* The indices of its interned types, in order, a part of the program's list types. */
+    bobbinazure_span types;
+    /* The answer to each of its imports, in order, a part of the program's list answers. */
+    bobbinazure_span answers;
+    size_t first_export; /* How many exports the modules before it have. */
 } bobbinazure_linked_module;
 
 /* A program of modules that are linked, or why it is refused. */
 typedef struct {
     /* Why the program is refused, from BOBBINAZURE_CAUSE_MODULE on; 0 where it is linked. */
     uint32_t cause;
-    /* Why the module is refused that has no plan, as of a plan, with the next two. */
+    /* Where the cause is a module, why it is refused: this field and the next two are those of a
+       plan. */
     uint32_t refusal;
     uint32_t refusal_detail;
     /* The line of the refusal, as the program prints it. It is never freed. */
@@ -985,8 +1001,8 @@ typedef struct {
     /* Where the wrong entry or part begins; the length of the module where it ends inside its
        header or a section. */
     uint32_t byte;
-    /* Whatever follows so many of these bytes, it is refused; BOBBINAZURE_NONE where the module
-       ends too early. */
+    /* How many bytes decide the refusal, whatever follows them; BOBBINAZURE_NONE where the
+       module ends too early. */
     uint32_t decided;
     uint32_t fault;             /* What is wrong: a number from BOBBINAZURE_FAULT_HEADER on. */
     bobbinazure_bytes sentence; /* A sentence for people, in UTF-8, without a zero at the end. */
@@ -1053,9 +1069,9 @@ typedef struct {
 
 /* Plans the module that the bytes spell.
  *
- * The call reads the bytes and the options. The plan points into the bytes, where a segment or a name is,
- * so the bytes must outlive the plan. `plan` must come from bobbinazure_plan_init: what it held is not
- * freed.
+ * The call reads the bytes and the options. The plan points into the bytes, where a segment or a
+ * name is, so the bytes must outlive the plan. `plan` must come from bobbinazure_plan_init: what it
+ * held is not freed.
  *
  *   PLANNED        the plan is complete; bobbinazure_plan_free frees it
  *   REFUSED        its first three fields say why; its lists stay empty, so nothing has to be freed
@@ -1066,8 +1082,8 @@ uint32_t bobbinazure_make_plan(const uint8_t *bytes, size_t len, const bobbinazu
 
 /* The same plan as text, or the line of the refusal: UTF-8 without a zero at the end.
  *
- * `text` must come from bobbinazure_text_init, and bobbinazure_text_free frees it. It does not point
- * into the bytes of the module. At WRONG_OPTIONS and NO_MEMORY it is unchanged. */
+ * `text` must come from bobbinazure_text_init, and bobbinazure_text_free frees it. It does not
+ * point into the bytes of the module. At WRONG_OPTIONS and NO_MEMORY it is unchanged. */
 uint32_t bobbinazure_make_text(const uint8_t *bytes, size_t len, const bobbinazure_options *options,
                                bobbinazure_text *text);
 
@@ -1090,27 +1106,30 @@ uint32_t bobbinazure_link(const uint8_t *exporter, size_t exporter_len, const ui
                           const uint8_t *as_module, size_t as_module_len, const bobbinazure_options *options,
                           bobbinazure_link_record *links);
 
-/* Links the modules of a program, in order: the imports of each are given by the exports of those before
- * it, under their module names. An import that is not given refuses nothing: its answer says so.
+/* Links the modules of a program, in order: the imports of each are given by the exports of those
+ * before it, under their module names. An import that is not given refuses nothing: its answer says
+ * so.
  *
- * The types of all modules are registered together, in a registry of the call: two types have one index
- * exactly where they are equal. All modules are planned with the options. The names are UTF-8 without
- * zeros at the end. `program` must come from bobbinazure_program_init. It does not point into the bytes
- * of the modules.
+ * The types of all modules are registered together, in a registry of the call: two types have one
+ * index exactly where they are equal. All modules are planned with the options. The names are UTF-8
+ * without zeros at the end. `program` must come from bobbinazure_program_init. It does not point
+ * into the bytes of the modules.
  *
- *   PLANNED        it has the indices of types and an answer for each import; bobbinazure_program_free
- *                  frees them
- *   REFUSED        its first five fields say why, and at which module: the first that is refused; if all
- *                  have plans, the first with too many types; else the first with a duplicate export
+ *   PLANNED        it has the indices of types and an answer for each import;
+ *                  bobbinazure_program_free frees them
+ *   REFUSED        its first five fields say why, and at which module: the first that is refused; if
+ *                  all have plans, the first with too many types; else the first with a duplicate
+ *                  export
  *   NO_MEMORY      it is unchanged
  *   WRONG_OPTIONS  it is unchanged; so it is where a name is not UTF-8 */
 uint32_t bobbinazure_link_program(const bobbinazure_named_module *modules, size_t count,
                                   const bobbinazure_options *options, bobbinazure_program *program);
 
-/* Says where and why bytes are malformed or not supported, for messages: call it after such a refusal.
+/* Says where and why bytes are malformed or not supported, for messages: call it after such a
+ * refusal.
  *
- * `place` must come from bobbinazure_place_init, and bobbinazure_place_free frees it. It does not point
- * into the bytes.
+ * `place` must come from bobbinazure_place_init, and bobbinazure_place_free frees it. It does not
+ * point into the bytes.
  *
  *   PLANNED        the bytes are read as a module, or there are 2^30 or more; it is unchanged
  *   REFUSED        it says where and why
@@ -1119,19 +1138,19 @@ uint32_t bobbinazure_locate(const uint8_t *bytes, size_t len, bobbinazure_place 
 
 /* Says which rule a module breaks, where and why: call it after INVALID.
  *
- * `broken` must come from bobbinazure_broken_rule_init, and bobbinazure_broken_rule_free frees it. It
- * does not point into the bytes.
+ * `broken` must come from bobbinazure_broken_rule_init, and bobbinazure_broken_rule_free frees it.
+ * It does not point into the bytes.
  *
  *   PLANNED        the bytes are not read as a module, or it keeps the rules; `broken` is unchanged
  *   REFUSED        it says which rule, where and why
  *   NO_MEMORY      it is unchanged */
 uint32_t bobbinazure_locate_rule(const uint8_t *bytes, size_t len, bobbinazure_broken_rule *broken);
 
-/* Says what makes a module too large to be planned with the options, and where: call it after TOO_LARGE
- * or OFFSET_OVERFLOW. It plans the module again.
+/* Says what makes a module too large to be planned with the options, and where: call it after
+ * TOO_LARGE or OFFSET_OVERFLOW. It plans the module again.
  *
- * `excess` must come from bobbinazure_excess_init, and bobbinazure_excess_free frees it. It does not
- * point into the bytes. Of memories, types and tags it names the first, in this order.
+ * `excess` must come from bobbinazure_excess_init, and bobbinazure_excess_free frees it. It does
+ * not point into the bytes. Of memories, types and tags it names the first, in this order.
  *
  *   PLANNED        it is not too large; `excess` is unchanged
  *   REFUSED        it says what is too large, and where
@@ -1140,11 +1159,11 @@ uint32_t bobbinazure_locate_rule(const uint8_t *bytes, size_t len, bobbinazure_b
 uint32_t bobbinazure_locate_excess(const uint8_t *bytes, size_t len, const bobbinazure_options *options,
                                    bobbinazure_excess *excess);
 
-/* Lists the sections of the bytes, also where they are no module: none where the header is wrong, and
- * where there are 2^30 bytes or more.
+/* Lists the sections of the bytes, also where they are no module: none where the header is wrong,
+ * and where there are 2^30 bytes or more.
  *
- * `list` must come from bobbinazure_sections_init, and bobbinazure_sections_free frees it. The names
- * are in the bytes, which must outlive the list.
+ * `list` must come from bobbinazure_sections_init, and bobbinazure_sections_free frees it. The
+ * names are in the bytes, which must outlive the list.
  *
  *   PLANNED        it has the sections
  *   NO_MEMORY      it is unchanged */
@@ -1153,13 +1172,14 @@ uint32_t bobbinazure_sections(const uint8_t *bytes, size_t len, bobbinazure_sect
 /* The version of the library: 10000 * major + 100 * minor + patch. */
 uint32_t bobbinazure_version(void);
 
-/* The offset in the module of bytes that a plan has from it: the code of a body, a segment, a name. */
+/* The offset in the module of bytes that a plan has from it: the code of a body, a segment, a
+ * name. */
 static inline size_t bobbinazure_offset(const uint8_t *module, bobbinazure_bytes part) {
     return (size_t)(part.at - module);
 }
 
-/* The layout of the objects of an interned type, such as the exceptions of a tag; null where it has no
- * objects. */
+/* The layout of the objects of an interned type, such as the exceptions of a tag; null where it has
+ * no objects. */
 static inline const bobbinazure_layout *bobbinazure_layout_of(const bobbinazure_plan *plan, uint32_t type) {
     size_t low = 0, high = plan->layouts.len;
     while (low < high) {
@@ -1170,8 +1190,9 @@ static inline const bobbinazure_layout *bobbinazure_layout_of(const bobbinazure_
     return low < plan->layouts.len && plan->layouts.at[low].type == type ? &plan->layouts.at[low] : 0;
 }
 
-/* The passive element segment at this index in the element section, which table.init and elem.drop name:
- * its place in `passive_elements` and `passive_items`. BOBBINAZURE_NONE where that segment is not passive. */
+/* The passive element segment at this index in the element section, which table.init and elem.drop
+ * name: its place in `passive_elements` and `passive_items`. BOBBINAZURE_NONE where that segment is
+ * not passive. */
 static inline uint32_t bobbinazure_passive_elements_of(const bobbinazure_plan *plan, uint32_t segment) {
     size_t low = 0, high = plan->passive_segments.len;
     while (low < high) {
@@ -1183,8 +1204,9 @@ static inline uint32_t bobbinazure_passive_elements_of(const bobbinazure_plan *p
     return plan->passive_segments.at[low].passive;
 }
 
-/* The runtime data of the passive data segment at this index in the data section, which memory.init and
- * data.drop name. BOBBINAZURE_NONE where that segment is not passive, and where it has no bytes. */
+/* The runtime data of the passive data segment at this index in the data section, which memory.init
+ * and data.drop name. BOBBINAZURE_NONE where that segment is not passive, and where it has no
+ * bytes. */
 static inline uint32_t bobbinazure_passive_data_of(const bobbinazure_plan *plan, uint32_t segment) {
     size_t low = 0, high = plan->passive.len;
     while (low < high) {
@@ -1196,14 +1218,16 @@ static inline uint32_t bobbinazure_passive_data_of(const bobbinazure_plan *plan,
     return plan->passive.at[low].runtime;
 }
 
-/* Whether a memory may be moved as it grows, where so many bytes are reserved for it at first: not where
- * `may_move` is 0, threads share it, it cannot grow, or all that it grows to is reserved. */
+/* Whether a memory may be moved as it grows, where `reservation` bytes are reserved for it at
+ * first. It may not where `may_move` is 0, threads share it, it cannot grow, or all that it can
+ * grow to is reserved. */
 static inline int bobbinazure_memory_may_move(const bobbinazure_memory *memory, uint64_t reservation, int may_move) {
     return may_move && !memory->shared && memory->minimum != memory->maximum && memory->maximum_bytes > reservation;
 }
 
-/* Whether guard pages alone check the accesses to a memory, where faults in them become traps. The host's
- * page size is an exponent of 2; the guard stands behind the reserved bytes. */
+/* Whether guard pages alone can check the accesses to a memory, on a host that turns their faults
+ * into traps. Behind the `reservation` bytes that are reserved for the memory are `guard_size`
+ * bytes of such pages. The host's page size is given as an exponent of 2. */
 static inline int bobbinazure_can_elide_bounds_check(const bobbinazure_memory *memory, uint64_t reservation,
                                                      uint64_t guard_size, uint8_t host_page_size_log2) {
     uint64_t guarded = guard_size > UINT64_MAX - reservation ? UINT64_MAX : reservation + guard_size;
@@ -1281,8 +1305,8 @@ static inline bobbinazure_section_list bobbinazure_sections_init(void) {
     return list;
 }
 
-/* Frees what a call filled, and leaves the plan as bobbinazure_plan_init returns it. A plan that no call
- * filled may be freed too. */
+/* Frees what a call filled, and leaves the plan as bobbinazure_plan_init returns it. A plan that no
+ * call filled may be freed too. */
 static inline void bobbinazure_plan_free(bobbinazure_plan *plan) {
     for (size_t i = 0; i < plan->runtime.len; i++)
         if (plan->runtime.at[i].made && plan->runtime.at[i].bytes.len)

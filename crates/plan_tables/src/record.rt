@@ -29,9 +29,9 @@ pub struct RuntimeRow<'d> {
 pub struct RegionRow {
     /// Where in the context it begins, in bytes.
     pub begin: u32,
-    /// In bytes.
+    /// Its size, in bytes.
     pub size: u32,
-    /// What it holds, in ASCII.
+    /// Its name, which says what it holds, in ASCII.
     pub name: &'static [u8],
 }
 
@@ -55,7 +55,7 @@ pub struct TypesRecord<'d> {
 #[repr(C)]
 #[derive(Clone, Copy)]
 pub struct KindsRecord<'d> {
-    /// The memories, imported ones first, as of the next three.
+    /// The memories, imported ones first. The next three lists are of the other kinds, likewise.
     pub memories: &'d [MemoryRow],
     pub tables: &'d [TableRow],
     pub globals: &'d [GlobalRow],
@@ -96,7 +96,7 @@ pub struct TablesRecord<'d> {
 pub struct FunctionNameRow<'d> {
     /// The function, by its index.
     pub function: u32,
-    /// In the module's bytes, in UTF-8.
+    /// Its name, in the module's bytes, in UTF-8.
     pub name: &'d [u8],
 }
 
@@ -114,11 +114,11 @@ pub struct ExpressionsRecord<'d> {
 #[repr(C)]
 #[derive(Clone, Copy)]
 pub struct ElementItemsRecord<'d> {
-    /// Of each segment, in order.
+    /// The items of each segment, in order.
     pub rows: &'d [ItemsRow],
-    /// Functions by their indices, end to end.
+    /// The items that are functions, by their indices, end to end.
     pub functions: &'d [u32],
-    /// The expressions of all segments.
+    /// The items that are constant expressions, end to end.
     pub expressions: ExpressionsRecord<'d>,
 }
 
@@ -126,9 +126,9 @@ pub struct ElementItemsRecord<'d> {
 #[repr(C)]
 #[derive(Clone, Copy)]
 pub struct ItemsRecord<'d> {
-    /// Of each of `elements`: `element_items`.
+    /// The items of each of `elements`: `element_items`.
     pub kept: ElementItemsRecord<'d>,
-    /// Of each of `passive_elements`: `passive_items`.
+    /// The items of each of `passive_elements`: `passive_items`.
     pub passive: ElementItemsRecord<'d>,
 }
 
@@ -140,7 +140,7 @@ pub struct BodyRow<'d> {
     pub bytes: &'d [u8],
     /// Its code, behind its locals, up to the end of the body: a part of the module's bytes.
     pub code: &'d [u8],
-    /// Its locals, a part of `locals`.
+    /// Its locals, a part of the plan's list `locals`.
     pub locals: Span,
 }
 
@@ -162,7 +162,7 @@ pub struct LocalNameRow<'d> {
     pub function: u32,
     /// The local, by its index; the parameters come first.
     pub local: u32,
-    /// In the module's bytes, in UTF-8.
+    /// Its name, in the module's bytes, in UTF-8.
     pub name: &'d [u8],
 }
 
@@ -175,8 +175,8 @@ pub struct DebugRecord<'d> {
     /// The names of locals from the custom section `name`, by functions and then by locals. This
     /// list and the next two are empty without `native_debug`: `local_names`.
     pub names: &'d [LocalNameRow<'d>],
-    /// Of each defined function its locals, a part of the next list. Its parameters are those of
-    /// its type, as of `functions`: `function_metadata`.
+    /// The locals of each defined function, a part of the next list. Its parameters are those of
+    /// its type, which `functions` names: `function_metadata`.
     pub functions: &'d [Span],
     /// The locals of functions, end to end, in runs of one interned type: `metadata_locals`.
     pub locals: &'d [LocalsRow],
@@ -194,7 +194,7 @@ pub struct FunctionsRecord<'d> {
     pub hints: &'d [HintsRow],
     /// The branch hints, function by function, those of a function in order.
     pub branch_hints: &'d [BranchHintRow],
-    /// The element segments that are passive, in order.
+    /// Which segments of the element section are passive, in order.
     pub passive_segments: &'d [PassiveSegmentRow],
 }
 
@@ -255,14 +255,14 @@ pub struct InternedRecord<'d> {
 #[repr(C)]
 #[derive(Clone, Copy)]
 pub struct PlacesRecord<'d> {
-    /// Of each of `expressed_globals`: `global_expressions`.
+    /// The expression of each of `expressed_globals`: `global_expressions`.
     pub globals: ExpressionsRecord<'d>,
-    /// Of the offset of each of `segments`; no operators where the offset is
+    /// The offset of each of `segments`, as an expression; it has no operators where the offset is
     /// planned: `segment_places`.
     pub segments: ExpressionsRecord<'d>,
-    /// Of the offset of each of `elements`: `element_places`.
+    /// The offset of each of `elements`, as an expression: `element_places`.
     pub elements: ExpressionsRecord<'d>,
-    /// Of the first value of each defined table; no operators where its cells begin as
+    /// The first value of the cells of each defined table; it has no operators where they begin as
     /// null: `table_values`.
     pub tables: ExpressionsRecord<'d>,
 }
@@ -307,7 +307,7 @@ pub struct PlanRecord<'d> {
     pub interned: InternedRecord<'d>,
     /// The text of the module's name, in UTF-8.
     pub module_text: &'d [u8],
-    /// The structs that compiled code reads.
+    /// The sizes of the structs that compiled code reads, and where their fields begin.
     pub structs: Structs,
     pub items: ItemsRecord<'d>,
     pub bodies: BodiesRecord<'d>,

@@ -144,10 +144,10 @@ pub struct MemoryRow {
     pub minimum: u64,
     /// The greatest size, in pages; `u64::MAX` where there is none.
     pub maximum: u64,
-    /// The least size, in bytes; `u64::MAX` also where it is more.
+    /// The least size, in bytes; `u64::MAX` where it has more bytes than that.
     pub minimum_bytes: u64,
-    /// The greatest size, in bytes, as `minimum_bytes`. Where there is none in pages, what
-    /// addresses reach, or the least size if that is more.
+    /// The greatest size, in bytes; `u64::MAX` where it has more bytes than that. Without a greatest
+    /// size in pages it is what addresses reach, or the least size if that is more.
     pub maximum_bytes: u64,
     /// The page size as an exponent of 2: 0 or 16.
     pub page_size_log2: u8,

@@ -3,7 +3,8 @@
 //!
 //! Each number is in bytes. Where a field begins is counted from the beginning of its struct.
 
-/// An imported function: `bobbinazure_function_import_layout`.
+/// Where the fields of an imported function begin,
+/// and their sizes, in bytes: `bobbinazure_function_import_layout`.
 #[repr(C)]
 #[derive(Clone, Copy)]
 pub struct FunctionImportLayout {
@@ -23,7 +24,8 @@ pub struct FunctionImportLayout {
     pub vmctx_size: u32,
 }
 
-/// An imported table: `bobbinazure_table_import_layout`.
+/// Where the fields of an imported table begin,
+/// and their sizes, in bytes: `bobbinazure_table_import_layout`.
 #[repr(C)]
 #[derive(Clone, Copy)]
 pub struct TableImportLayout {
@@ -43,7 +45,8 @@ pub struct TableImportLayout {
     pub index_size: u32,
 }
 
-/// An imported memory: `bobbinazure_memory_import_layout`.
+/// Where the fields of an imported memory begin,
+/// and their sizes, in bytes: `bobbinazure_memory_import_layout`.
 #[repr(C)]
 #[derive(Clone, Copy)]
 pub struct MemoryImportLayout {
@@ -63,7 +66,8 @@ pub struct MemoryImportLayout {
     pub index_size: u32,
 }
 
-/// An imported tag: `bobbinazure_tag_import_layout`.
+/// Where the fields of an imported tag begin,
+/// and their sizes, in bytes: `bobbinazure_tag_import_layout`.
 #[repr(C)]
 #[derive(Clone, Copy)]
 pub struct TagImportLayout {
@@ -83,7 +87,8 @@ pub struct TagImportLayout {
     pub index_size: u32,
 }
 
-/// An imported global: `bobbinazure_global_import_layout`.
+/// Where the fields of an imported global begin,
+/// and their sizes, in bytes: `bobbinazure_global_import_layout`.
 #[repr(C)]
 #[derive(Clone, Copy)]
 pub struct GlobalImportLayout {
@@ -103,7 +108,8 @@ pub struct GlobalImportLayout {
     pub kind_size: u32,
 }
 
-/// A memory: `bobbinazure_memory_definition_layout`.
+/// Where the fields of a memory begin,
+/// and their sizes, in bytes: `bobbinazure_memory_definition_layout`.
 #[repr(C)]
 #[derive(Clone, Copy)]
 pub struct MemoryDefinitionLayout {
@@ -119,7 +125,8 @@ pub struct MemoryDefinitionLayout {
     pub current_length_size: u32,
 }
 
-/// A table: `bobbinazure_table_definition_layout`.
+/// Where the fields of a table begin,
+/// and their sizes, in bytes: `bobbinazure_table_definition_layout`.
 #[repr(C)]
 #[derive(Clone, Copy)]
 pub struct TableDefinitionLayout {
@@ -135,7 +142,8 @@ pub struct TableDefinitionLayout {
     pub current_elements_size: u32,
 }
 
-/// A global: `bobbinazure_global_definition_layout`.
+/// Where the fields of a global begin,
+/// and their sizes, in bytes: `bobbinazure_global_definition_layout`.
 #[repr(C)]
 #[derive(Clone, Copy)]
 pub struct GlobalDefinitionLayout {
@@ -147,7 +155,8 @@ pub struct GlobalDefinitionLayout {
     pub storage_size: u32,
 }
 
-/// A tag: `bobbinazure_tag_definition_layout`.
+/// Where the fields of a tag begin,
+/// and their sizes, in bytes: `bobbinazure_tag_definition_layout`.
 #[repr(C)]
 #[derive(Clone, Copy)]
 pub struct TagDefinitionLayout {
@@ -159,7 +168,8 @@ pub struct TagDefinitionLayout {
     pub type_index_size: u32,
 }
 
-/// A reference to a function: `bobbinazure_func_ref_layout`.
+/// Where the fields of a reference to a function begin,
+/// and their sizes, in bytes: `bobbinazure_func_ref_layout`.
 #[repr(C)]
 #[derive(Clone, Copy)]
 pub struct FuncRefLayout {
@@ -183,7 +193,8 @@ pub struct FuncRefLayout {
     pub vmctx_size: u32,
 }
 
-/// The context of a store: `bobbinazure_store_context_layout`.
+/// Where the fields of the context of a store begin,
+/// and their sizes, in bytes: `bobbinazure_store_context_layout`.
 #[repr(C)]
 #[derive(Clone, Copy)]
 pub struct StoreContextLayout {
@@ -211,7 +222,8 @@ pub struct StoreContextLayout {
     pub last_wasm_exit_trampoline_fp_size: u32,
 }
 
-/// The part of a context that each module has: `bobbinazure_static_context_layout`.
+/// Where the fields of the part of a context that all modules have begin,
+/// and their sizes, in bytes: `bobbinazure_static_context_layout`.
 #[repr(C)]
 #[derive(Clone, Copy)]
 pub struct StaticContextLayout {

@@ -4,7 +4,7 @@
 #[repr(C)]
 #[derive(Clone, Copy)]
 pub struct ImportAnswerRecord {
-    /// From `BOBBINAZURE_GIVEN` on: 0 given, 1 missing, 2 a mismatch.
+    /// What it is, from `BOBBINAZURE_GIVEN` on: 0 given, 1 missing, 2 a mismatch.
     pub answer: u32,
     /// Where it is given, the number of the export, from 0 on; of a mismatch the rule that it
     /// breaks, from `BOBBINAZURE_MISMATCH_KIND` on; else 0.
@@ -19,7 +19,7 @@ pub struct ImportAnswerRecord {
 pub struct LinkRecord<'d> {
     /// 1 where the first module is refused, 2 where the second is; 0 where both are planned.
     pub refused: u32,
-    /// Why that module is refused, as of a plan, with the next two.
+    /// Why that module is refused: this field and the next two are those of a plan.
     pub refusal: u32,
     pub refusal_detail: u32,
     /// The line of the refusal, as the program prints it. It is never freed.

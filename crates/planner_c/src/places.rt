@@ -23,7 +23,7 @@ pub struct PlaceRecord<'d> {
     /// Where the wrong entry or part begins; the length of the module where it ends inside its header
     /// or a section.
     pub byte: u32,
-    /// Whatever follows so many of these bytes, it is refused; `u32::MAX` where the module ends too
+    /// How many bytes decide the refusal, whatever follows them; `u32::MAX` where the module ends too
     /// early.
     pub decided: u32,
     /// What is wrong: a number from `BOBBINAZURE_FAULT_HEADER` on.

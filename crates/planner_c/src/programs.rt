@@ -16,7 +16,7 @@ pub struct NamedModule<'d> {
 #[repr(C)]
 #[derive(Clone, Copy)]
 pub struct ProgramAnswerRecord {
-    /// From `BOBBINAZURE_GIVEN` on: 0 given, 1 missing, 2 a mismatch.
+    /// What it is, from `BOBBINAZURE_GIVEN` on: 0 given, 1 missing, 2 a mismatch.
     pub answer: u32,
     /// Of a mismatch the rule that it breaks, from `BOBBINAZURE_MISMATCH_KIND` on; else 0.
     pub rule: u32,
@@ -32,9 +32,9 @@ pub struct ProgramAnswerRecord {
 #[repr(C)]
 #[derive(Clone, Copy)]
 pub struct LinkedModuleRecord {
-    /// Its interned types, in order, a part of types.
+    /// The indices of its interned types, in order, a part of the program's list `types`.
     pub types: Span,
-    /// The answer to each of its imports, in order, a part of answers.
+    /// The answer to each of its imports, in order, a part of the program's list `answers`.
     pub answers: Span,
     /// How many exports the modules before it have.
     pub first_export: usize,
@@ -46,7 +46,8 @@ pub struct LinkedModuleRecord {
 pub struct ProgramRecord<'d> {
     /// Why the program is refused, from `BOBBINAZURE_CAUSE_MODULE` on; 0 where it is linked.
     pub cause: u32,
-    /// Why the module is refused that has no plan, as of a plan, with the next two.
+    /// Where the cause is a module, why it is refused: this field and the next two are those of a
+    /// plan.
     pub refusal: u32,
     pub refusal_detail: u32,
     /// The line of the refusal, as the program prints it. It is never freed.

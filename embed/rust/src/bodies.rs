@@ -65,8 +65,8 @@ impl<'d> Plan<'d> {
         (0..self.record.bodies.as_slice().len()).map(|place| self.body_at(place))
     }
 
-    /// The body of a function, by its index among all functions; none of an imported one. It takes
-    /// no walk over the others.
+    /// The body of a function, by its index among all functions; `None` of an imported one. The
+    /// other bodies are not visited.
     ///
     /// ```
     /// # let bytes = std::fs::read(concat!(env!("CARGO_MANIFEST_DIR"), "/../../examples/linked.wasm"))?;

@@ -57,7 +57,7 @@ pub struct Place {
     /// The offset of what is wrong; the length of the input where it ends inside its header or a
     /// section.
     pub byte: u32,
-    /// Input that begins with so many of these bytes is refused too; `None` where it ends inside
+    /// How many bytes decide the refusal, whatever follows them; `None` where the input ends inside
     /// its header, a size or a section.
     pub decided: Option<u32>,
     /// What is wrong, from [`numbers::FAULT_HEADER`](crate::numbers::FAULT_HEADER) on.
@@ -142,7 +142,7 @@ impl fmt::Display for BrokenRule {
 }
 
 /// Says which rule a module breaks, where and why; `None` where the bytes are not read as a module,
-/// and where it keeps the rules. For modules that were refused as invalid.
+/// and where it keeps the rules. It is for modules that were refused as invalid.
 ///
 /// # Errors
 /// No memory.
@@ -211,8 +211,8 @@ impl fmt::Display for Excess {
 }
 
 /// Says what makes a module too large to be planned with the options, and where; `None` where it is
-/// not too large. For modules that were refused as too large, or for an offset that overflows. It
-/// plans the module again.
+/// not too large. It is for modules that were refused as too large, or for an offset that overflows.
+/// It plans the module again.
 ///
 /// # Errors
 /// Wrong options; no memory.

@@ -146,8 +146,9 @@ impl fmt::Debug for Program {
 /// Links modules in order. Each has a name and its bytes, and its imports are given by the exports
 /// of those before it, under their names. An import that is not given refuses nothing.
 ///
-/// # Errors The first module that has no plan; the first with too many types, or with an export
-/// that repeats two names; wrong options; no memory.
+/// # Errors
+/// The first module that has no plan; else the first with too many types; else the first with an
+/// export that has the two names of an earlier one. Wrong options; no memory.
 ///
 /// ```
 /// use bobbinazure::{Options, ProgramImport, link_program};

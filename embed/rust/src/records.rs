@@ -17,11 +17,11 @@ pub(crate) struct ExpressionsRecord {
 #[repr(C)]
 #[derive(Default)]
 pub(crate) struct ElementItemsRecord {
-    /// Of each segment, in order.
+    /// The items of each segment, in order.
     pub(crate) rows: List<Items>,
-    /// Functions by their indices, end to end.
+    /// The items that are functions, by their indices, end to end.
     pub(crate) functions: List<u32>,
-    /// The expressions of all segments.
+    /// The items that are constant expressions, end to end.
     pub(crate) expressions: ExpressionsRecord,
 }
 
@@ -77,7 +77,7 @@ pub(crate) struct PlanRecord {
     pub(crate) escapes: List<u32>,
     /// The interned types of the functions that escape, each once.
     pub(crate) signatures: List<u32>,
-    /// The memories, imported ones first, as of the next three.
+    /// The memories, imported ones first. The next three lists are of the other kinds, likewise.
     pub(crate) memories: List<Memory>,
     pub(crate) tables: List<Table>,
     pub(crate) globals: List<Global>,
@@ -108,21 +108,21 @@ pub(crate) struct PlanRecord {
     pub(crate) hints: List<Hints>,
     /// The branch hints, function by function, those of a function in order.
     pub(crate) branch_hints: List<BranchHint>,
-    /// The element segments that are passive, in order.
+    /// Which segments of the element section are passive, in order.
     pub(crate) passive_segments: List<PassiveSegment>,
     /// The defined globals that begin as a known value.
     pub(crate) global_values: List<GlobalValue>,
     /// The defined globals that begin as the value of an expression, each by its number among the
     /// defined ones.
     pub(crate) expressed_globals: List<u32>,
-    /// Of each of `expressed_globals`.
+    /// The expression of each of `expressed_globals`.
     pub(crate) global_expressions: ExpressionsRecord,
-    /// Of the offset of each of `segments`; no operators where the offset is
+    /// The offset of each of `segments`, as an expression; it has no operators where the offset is
     /// planned.
     pub(crate) segment_places: ExpressionsRecord,
-    /// Of the offset of each of `elements`.
+    /// The offset of each of `elements`, as an expression.
     pub(crate) element_places: ExpressionsRecord,
-    /// Of the first value of each defined table; no operators where its cells begin as
+    /// The first value of the cells of each defined table; it has no operators where they begin as
     /// null.
     pub(crate) table_values: ExpressionsRecord,
     /// The imports, in order.
@@ -147,11 +147,11 @@ pub(crate) struct PlanRecord {
     pub(crate) trampolines: List<Trampoline>,
     /// The text of the module's name, in UTF-8.
     pub(crate) module_text: List<u8>,
-    /// The structs that compiled code reads.
+    /// The sizes of the structs that compiled code reads, and where their fields begin.
     pub(crate) structs: Structs,
-    /// Of each of `elements`.
+    /// The items of each of `elements`.
     pub(crate) element_items: ElementItemsRecord,
-    /// Of each of `passive_elements`.
+    /// The items of each of `passive_elements`.
     pub(crate) passive_items: ElementItemsRecord,
     /// The body of each defined function, in order.
     pub(crate) bodies: List<Body>,
@@ -162,8 +162,8 @@ pub(crate) struct PlanRecord {
     /// The names of locals from the custom section `name`, by functions and then by locals. This
     /// list and the next two are empty without `native_debug`.
     pub(crate) local_names: List<LocalName>,
-    /// Of each defined function its locals, a part of the next list. Its parameters are those of
-    /// its type, as of `functions`.
+    /// The locals of each defined function, a part of the next list. Its parameters are those of
+    /// its type, which `functions` names.
     pub(crate) function_metadata: List<Span>,
     /// The locals of functions, end to end, in runs of one interned type.
     pub(crate) metadata_locals: List<Locals>,
@@ -252,7 +252,8 @@ pub(crate) struct Text {
 #[repr(C)]
 #[derive(Default)]
 pub(crate) struct ImportAnswer {
-    /// From [`numbers::GIVEN`](crate::numbers::GIVEN) on: 0 given, 1 missing, 2 a mismatch.
+    /// What it is, from [`numbers::GIVEN`](crate::numbers::GIVEN) on: 0 given, 1 missing, 2 a
+    /// mismatch.
     pub(crate) answer: u32,
     /// Where it is given, the number of the export, from 0 on; of a mismatch the rule that it
     /// breaks, from [`numbers::MISMATCH_KIND`](crate::numbers::MISMATCH_KIND) on; else 0.
@@ -267,7 +268,7 @@ pub(crate) struct ImportAnswer {
 pub(crate) struct LinkRecord {
     /// 1 where the first module is refused, 2 where the second is; 0 where both are planned.
     pub(crate) refused: u32,
-    /// Why that module is refused, as of a plan, with the next two.
+    /// Why that module is refused: this field and the next two are those of a plan.
     pub(crate) refusal: u32,
     pub(crate) refusal_detail: u32,
     /// The line of the refusal, as the program prints it. It is never freed.
@@ -290,7 +291,8 @@ pub(crate) struct NamedModule {
 #[repr(C)]
 #[derive(Default)]
 pub(crate) struct ProgramAnswer {
-    /// From [`numbers::GIVEN`](crate::numbers::GIVEN) on: 0 given, 1 missing, 2 a mismatch.
+    /// What it is, from [`numbers::GIVEN`](crate::numbers::GIVEN) on: 0 given, 1 missing, 2 a
+    /// mismatch.
     pub(crate) answer: u32,
     /// Of a mismatch the rule that it breaks, from
     /// [`numbers::MISMATCH_KIND`](crate::numbers::MISMATCH_KIND) on; else 0.
@@ -307,9 +309,9 @@ pub(crate) struct ProgramAnswer {
 #[repr(C)]
 #[derive(Clone, Copy, Debug, PartialEq, Eq, Hash, Default)]
 pub(crate) struct LinkedModule {
-    /// Its interned types, in order, a part of types.
+    /// The indices of its interned types, in order, a part of the program's list `types`.
     pub(crate) types: Span,
-    /// The answer to each of its imports, in order, a part of answers.
+    /// The answer to each of its imports, in order, a part of the program's list `answers`.
     pub(crate) answers: Span,
     /// How many exports the modules before it have.
     pub(crate) first_export: usize,
@@ -322,7 +324,8 @@ pub(crate) struct ProgramRecord {
     /// Why the program is refused, from [`numbers::CAUSE_MODULE`](crate::numbers::CAUSE_MODULE) on;
     /// 0 where it is linked.
     pub(crate) cause: u32,
-    /// Why the module is refused that has no plan, as of a plan, with the next two.
+    /// Where the cause is a module, why it is refused: this field and the next two are those of a
+    /// plan.
     pub(crate) refusal: u32,
     pub(crate) refusal_detail: u32,
     /// The line of the refusal, as the program prints it. It is never freed.

@@ -138,10 +138,10 @@ pub struct Memory {
     pub minimum: u64,
     /// The greatest size, in pages; `u64::MAX` where there is none.
     pub maximum: u64,
-    /// The least size, in bytes; `u64::MAX` also where it is more.
+    /// The least size, in bytes; `u64::MAX` where it has more bytes than that.
     pub minimum_bytes: u64,
-    /// The greatest size, in bytes, as `minimum_bytes`. Where there is none in pages, what
-    /// addresses reach, or the least size if that is more.
+    /// The greatest size, in bytes; `u64::MAX` where it has more bytes than that. Without a
+    /// greatest size in pages it is what addresses reach, or the least size if that is more.
     pub maximum_bytes: u64,
     /// The page size as an exponent of 2: 0 or 16.
     pub page_size_log2: u8,
@@ -438,7 +438,8 @@ pub struct Trampoline {
     pub trampoline: u32,
 }
 
-/// An imported function.
+/// Where the fields of an imported function begin,
+/// and their sizes, in bytes.
 #[repr(C)]
 #[derive(Clone, Copy, Debug, PartialEq, Eq, Hash, Default)]
 pub struct FunctionImportLayout {
@@ -458,7 +459,8 @@ pub struct FunctionImportLayout {
     pub vmctx_size: u32,
 }
 
-/// An imported table.
+/// Where the fields of an imported table begin,
+/// and their sizes, in bytes.
 #[repr(C)]
 #[derive(Clone, Copy, Debug, PartialEq, Eq, Hash, Default)]
 pub struct TableImportLayout {
@@ -478,7 +480,8 @@ pub struct TableImportLayout {
     pub index_size: u32,
 }
 
-/// An imported memory.
+/// Where the fields of an imported memory begin,
+/// and their sizes, in bytes.
 #[repr(C)]
 #[derive(Clone, Copy, Debug, PartialEq, Eq, Hash, Default)]
 pub struct MemoryImportLayout {
@@ -498,7 +501,8 @@ pub struct MemoryImportLayout {
     pub index_size: u32,
 }
 
-/// An imported tag.
+/// Where the fields of an imported tag begin,
+/// and their sizes, in bytes.
 #[repr(C)]
 #[derive(Clone, Copy, Debug, PartialEq, Eq, Hash, Default)]
 pub struct TagImportLayout {
@@ -518,7 +522,8 @@ pub struct TagImportLayout {
     pub index_size: u32,
 }
 
-/// An imported global.
+/// Where the fields of an imported global begin,
+/// and their sizes, in bytes.
 #[repr(C)]
 #[derive(Clone, Copy, Debug, PartialEq, Eq, Hash, Default)]
 pub struct GlobalImportLayout {
@@ -538,7 +543,8 @@ pub struct GlobalImportLayout {
     pub kind_size: u32,
 }
 
-/// A memory.
+/// Where the fields of a memory begin,
+/// and their sizes, in bytes.
 #[repr(C)]
 #[derive(Clone, Copy, Debug, PartialEq, Eq, Hash, Default)]
 pub struct MemoryDefinitionLayout {
@@ -554,7 +560,8 @@ pub struct MemoryDefinitionLayout {
     pub current_length_size: u32,
 }
 
-/// A table.
+/// Where the fields of a table begin,
+/// and their sizes, in bytes.
 #[repr(C)]
 #[derive(Clone, Copy, Debug, PartialEq, Eq, Hash, Default)]
 pub struct TableDefinitionLayout {
@@ -570,7 +577,8 @@ pub struct TableDefinitionLayout {
     pub current_elements_size: u32,
 }
 
-/// A global.
+/// Where the fields of a global begin,
+/// and their sizes, in bytes.
 #[repr(C)]
 #[derive(Clone, Copy, Debug, PartialEq, Eq, Hash, Default)]
 pub struct GlobalDefinitionLayout {
@@ -582,7 +590,8 @@ pub struct GlobalDefinitionLayout {
     pub storage_size: u32,
 }
 
-/// A tag.
+/// Where the fields of a tag begin,
+/// and their sizes, in bytes.
 #[repr(C)]
 #[derive(Clone, Copy, Debug, PartialEq, Eq, Hash, Default)]
 pub struct TagDefinitionLayout {
@@ -594,7 +603,8 @@ pub struct TagDefinitionLayout {
     pub type_index_size: u32,
 }
 
-/// A reference to a function.
+/// Where the fields of a reference to a function begin,
+/// and their sizes, in bytes.
 #[repr(C)]
 #[derive(Clone, Copy, Debug, PartialEq, Eq, Hash, Default)]
 pub struct FuncRefLayout {
@@ -618,7 +628,8 @@ pub struct FuncRefLayout {
     pub vmctx_size: u32,
 }
 
-/// The context of a store.
+/// Where the fields of the context of a store begin,
+/// and their sizes, in bytes.
 #[repr(C)]
 #[derive(Clone, Copy, Debug, PartialEq, Eq, Hash, Default)]
 pub struct StoreContextLayout {
@@ -646,7 +657,8 @@ pub struct StoreContextLayout {
     pub last_wasm_exit_trampoline_fp_size: u32,
 }
 
-/// The part of a context that each module has.
+/// Where the fields of the part of a context that all modules have begin,
+/// and their sizes, in bytes.
 #[repr(C)]
 #[derive(Clone, Copy, Debug, PartialEq, Eq, Hash, Default)]
 pub struct StaticContextLayout {
@@ -682,29 +694,41 @@ pub struct StaticContextLayout {
 #[repr(C)]
 #[derive(Clone, Copy, Debug, PartialEq, Eq, Hash, Default)]
 pub struct Structs {
-    /// An imported function.
+    /// Where the fields of an imported function begin,
+    /// and their sizes, in bytes.
     pub function_import: FunctionImportLayout,
-    /// An imported table.
+    /// Where the fields of an imported table begin,
+    /// and their sizes, in bytes.
     pub table_import: TableImportLayout,
-    /// An imported memory.
+    /// Where the fields of an imported memory begin,
+    /// and their sizes, in bytes.
     pub memory_import: MemoryImportLayout,
-    /// An imported tag.
+    /// Where the fields of an imported tag begin,
+    /// and their sizes, in bytes.
     pub tag_import: TagImportLayout,
-    /// An imported global.
+    /// Where the fields of an imported global begin,
+    /// and their sizes, in bytes.
     pub global_import: GlobalImportLayout,
-    /// A memory.
+    /// Where the fields of a memory begin,
+    /// and their sizes, in bytes.
     pub memory_definition: MemoryDefinitionLayout,
-    /// A table.
+    /// Where the fields of a table begin,
+    /// and their sizes, in bytes.
     pub table_definition: TableDefinitionLayout,
-    /// A global.
+    /// Where the fields of a global begin,
+    /// and their sizes, in bytes.
     pub global_definition: GlobalDefinitionLayout,
-    /// A tag.
+    /// Where the fields of a tag begin,
+    /// and their sizes, in bytes.
     pub tag_definition: TagDefinitionLayout,
-    /// A reference to a function.
+    /// Where the fields of a reference to a function begin,
+    /// and their sizes, in bytes.
     pub func_ref: FuncRefLayout,
-    /// The context of a store.
+    /// Where the fields of the context of a store begin,
+    /// and their sizes, in bytes.
     pub store_context: StoreContextLayout,
-    /// The part of a context that each module has.
+    /// Where the fields of the part of a context that all modules have begin,
+    /// and their sizes, in bytes.
     pub static_context: StaticContextLayout,
 }
 
@@ -725,9 +749,9 @@ pub struct Runtime {
 pub struct Region {
     /// Where in the context it begins, in bytes.
     pub begin: u32,
-    /// In bytes.
+    /// Its size, in bytes.
     pub size: u32,
-    /// What it holds, in ASCII.
+    /// Its name, which says what it holds, in ASCII.
     pub(crate) name: List<u8>,
 }
 
@@ -737,7 +761,7 @@ pub struct Region {
 pub struct FunctionName {
     /// The function, by its index.
     pub function: u32,
-    /// In the module's bytes, in UTF-8.
+    /// Its name, in the module's bytes, in UTF-8.
     pub(crate) name: List<u8>,
 }
 
@@ -749,7 +773,7 @@ pub struct Body {
     pub(crate) bytes: List<u8>,
     /// Its code, behind its locals, up to the end of the body: a part of the module's bytes.
     pub(crate) code: List<u8>,
-    /// Its locals, a part of `locals`.
+    /// Its locals, a part of the plan's list `locals`.
     pub locals: Span,
 }
 
@@ -761,7 +785,7 @@ pub struct LocalName {
     pub function: u32,
     /// The local, by its index; the parameters come first.
     pub local: u32,
-    /// In the module's bytes, in UTF-8.
+    /// Its name, in the module's bytes, in UTF-8.
     pub(crate) name: List<u8>,
 }
 
@@ -779,8 +803,8 @@ pub struct Place {
     /// Where the wrong entry or part begins; the length of the module where it ends inside its
     /// header or a section.
     pub byte: u32,
-    /// Whatever follows so many of these bytes, it is refused; `u32::MAX` where the module ends too
-    /// early.
+    /// How many bytes decide the refusal, whatever follows them; `u32::MAX` where the module ends
+    /// too early.
     pub decided: u32,
     /// What is wrong: a number from [`numbers::FAULT_HEADER`](crate::numbers::FAULT_HEADER) on.
     pub fault: u32,

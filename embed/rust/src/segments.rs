@@ -73,7 +73,7 @@ pub struct PassiveElements<'p> {
 pub enum Items<'p> {
     /// Functions, by their indices.
     Functions(&'p [u32]),
-    /// Constant expressions, where there is one.
+    /// Constant expressions, at least one.
     Expressions(Expressions<'p>),
 }
 
@@ -203,7 +203,7 @@ impl Plan<'_> {
     }
 
     /// The passive element segment at this index in the element section: what `table.init` and
-    /// `elem.drop` name. None where that segment is not passive.
+    /// `elem.drop` name. `None` where that segment is not passive.
     ///
     /// ```
     /// # let bytes = std::fs::read(concat!(env!("CARGO_MANIFEST_DIR"), "/../../examples/linked.wasm"))?;
@@ -218,7 +218,7 @@ impl Plan<'_> {
     }
 
     /// The passive data segment at this index in the data section: what `memory.init` and
-    /// `data.drop` name. None where that segment is not passive, and where it has no bytes.
+    /// `data.drop` name. `None` where that segment is not passive, and where it has no bytes.
     ///
     /// ```
     /// # let bytes = std::fs::read(concat!(env!("CARGO_MANIFEST_DIR"), "/../../examples/linked.wasm"))?;
