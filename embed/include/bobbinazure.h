@@ -419,24 +419,26 @@ typedef struct {
 
 /* An element segment that remains to be written. */
 typedef struct {
-    uint32_t table;  /* The table that it writes. */
-    uint32_t kind;   /* As of a data segment, never 0. */
-    uint64_t offset; /* As of a data segment, in cells. */
-    uint64_t count;  /* How many elements it has. */
+    uint32_t table; /* The table that it writes. */
+    uint32_t kind;  /* How offset gives its cell, as of a data segment; never 0. */
+    /* The cell at which it begins, or the index of the global that holds it; 0 where another
+       expression gives it. */
+    uint64_t offset;
+    uint64_t count; /* How many elements it has. */
 } bobbinazure_elements;
 
 /* The items of an element segment, of which one of the two lists is empty. */
 typedef struct {
     bobbinazure_value element; /* The type of each item, a reference. */
-    /* The items that are functions, a part of functions of the same list of items. */
+    /* The items that are functions, a part of functions of the list of items. */
     bobbinazure_span functions;
-    /* The items that are constant expressions, a part of the parts of its expressions. */
+    /* The items that are constant expressions, a part of expressions.parts of the same list. */
     bobbinazure_span expressions;
 } bobbinazure_items;
 
 /* Locals of one type. */
 typedef struct {
-    uint32_t count; /* How many locals. */
+    uint32_t count; /* How many there are. */
     /* Their type. In locals a type of the module is named by the type section: list is
        BOBBINAZURE_OF_SECTION, and heap is BOBBINAZURE_HEAP_DECLARED. */
     bobbinazure_value value;
@@ -479,7 +481,8 @@ typedef struct {
 /* Which passive element segment a segment of the module is. */
 typedef struct {
     uint32_t segment; /* Its number in the element section. */
-    uint32_t passive; /* Its index among the passive ones, as of passive_elements. */
+    /* Its index among the passive ones: in passive_elements, and in passive_items. */
+    uint32_t passive;
 } bobbinazure_passive_segment;
 
 /* A passive element segment. */

@@ -235,9 +235,10 @@ pub struct PassiveRow {
 pub struct ElementsRow {
     /// The table that it writes.
     pub table: u32,
-    /// As of a data segment, never 0.
+    /// How `offset` gives its cell, as of a data segment; never 0.
     pub kind: u32,
-    /// As of a data segment, in cells.
+    /// The cell at which it begins, or the index of the global that holds it; 0 where another
+    /// expression gives it.
     pub offset: u64,
     /// How many elements it has.
     pub count: u64,
@@ -249,9 +250,9 @@ pub struct ElementsRow {
 pub struct ItemsRow {
     /// The type of each item, a reference.
     pub element: ValueRow,
-    /// The items that are functions, a part of `functions` of the same list of items.
+    /// The items that are functions, a part of `functions` of the list of items.
     pub functions: Span,
-    /// The items that are constant expressions, a part of the parts of its `expressions`.
+    /// The items that are constant expressions, a part of `expressions.parts` of the same list.
     pub expressions: Span,
 }
 
@@ -259,7 +260,7 @@ pub struct ItemsRow {
 #[repr(C)]
 #[derive(Clone, Copy)]
 pub struct LocalsRow {
-    /// How many locals.
+    /// How many there are.
     pub count: u32,
     /// Their type. In `locals` a type of the module is named by the type section: `list` is
     /// `BOBBINAZURE_OF_SECTION`, and `heap` is `BOBBINAZURE_HEAP_DECLARED`.
@@ -311,8 +312,8 @@ pub struct HintsRow {
 pub struct BranchHintRow {
     /// The function, by its index.
     pub function: u32,
-    /// Where the branch is, in bytes from the beginning of the function's body, which begins with its
-    /// locals.
+    /// Where the branch is, in bytes from the beginning of the function's body, which begins with
+    /// its locals.
     pub offset: u32,
     /// Whether it is likely to be taken.
     pub taken: u32,
@@ -324,7 +325,7 @@ pub struct BranchHintRow {
 pub struct PassiveSegmentRow {
     /// Its number in the element section.
     pub segment: u32,
-    /// Its index among the passive ones, as of `passive_elements`.
+    /// Its index among the passive ones: in `passive_elements`, and in `passive_items`.
     pub passive: u32,
 }
 

@@ -136,7 +136,7 @@ impl Memory {
         1 << self.page_size_log2
     }
 
-    /// The least size in bytes; none past `u64::MAX`.
+    /// The least size in bytes; `None` past `u64::MAX`.
     ///
     /// ```
     /// # use bobbinazure::Memory;
@@ -148,7 +148,7 @@ impl Memory {
     }
 
     /// The greatest size in bytes: without one in pages the greater of the least size and what
-    /// addresses reach; none past `u64::MAX`.
+    /// addresses reach; `None` past `u64::MAX`.
     ///
     /// ```
     /// # use bobbinazure::Memory;
@@ -178,9 +178,9 @@ impl Memory {
         self.minimum_byte_size().filter(|minimum| self.maximum_byte_size() == Some(*minimum))
     }
 
-    /// Whether the memory may be moved as it grows, where so many bytes are reserved for it at
-    /// first: not where the host says that it may not, nor where threads share it, where it cannot
-    /// grow, or where all that it grows to is reserved.
+    /// Whether the memory may be moved as it grows, where `reservation` bytes are reserved for it at
+    /// first. It may not where `may_move` is false, threads share it, it cannot grow, or all that it
+    /// can grow to is reserved.
     ///
     /// ```
     /// # use bobbinazure::Memory;
@@ -191,8 +191,9 @@ impl Memory {
         may_move && !self.shared && self.max() != Some(self.minimum) && self.maximum_byte_size().unwrap_or(u64::MAX) > reservation
     }
 
-    /// Whether guard pages alone check the accesses, for a host whose faults become traps: its page
-    /// size is an exponent of 2, and so many bytes are reserved, with the guard behind them.
+    /// Whether guard pages alone can check the accesses, on a host that turns their faults into
+    /// traps. Behind the `reservation` bytes that are reserved for the memory are `guard_size` bytes
+    /// of such pages. The host's page size is given as an exponent of 2.
     ///
     /// ```
     /// # use bobbinazure::Memory;

@@ -19,7 +19,7 @@ pub struct GcLayout<'p> {
     pub ty: u32,
     /// The size of an object in bytes; of an array, the bytes before its elements.
     pub size: u32,
-    /// In bytes.
+    /// The alignment of an object, in bytes.
     pub align: u32,
     /// What the objects are.
     pub kind: GcLayoutKind<'p>,

@@ -307,7 +307,7 @@ pub fn text(bytes: &[u8], options: &Options) -> Result<String, Error> {
     }
 }
 
-/// Both of one plan, which is made once.
+/// The plan and its text by one call, which plans once.
 ///
 /// # Errors
 /// As of [`Plan::new`].

@@ -229,9 +229,10 @@ pub struct Passive {
 pub struct Elements {
     /// The table that it writes.
     pub table: u32,
-    /// As of a data segment, never 0.
+    /// How `offset` gives its cell, as of a data segment; never 0.
     pub kind: u32,
-    /// As of a data segment, in cells.
+    /// The cell at which it begins, or the index of the global that holds it; 0 where another
+    /// expression gives it.
     pub offset: u64,
     /// How many elements it has.
     pub count: u64,
@@ -243,9 +244,9 @@ pub struct Elements {
 pub struct Items {
     /// The type of each item, a reference.
     pub element: Value,
-    /// The items that are functions, a part of `functions` of the same list of items.
+    /// The items that are functions, a part of `functions` of the list of items.
     pub functions: Span,
-    /// The items that are constant expressions, a part of the parts of its `expressions`.
+    /// The items that are constant expressions, a part of `expressions.parts` of the same list.
     pub expressions: Span,
 }
 
@@ -253,7 +254,7 @@ pub struct Items {
 #[repr(C)]
 #[derive(Clone, Copy, Debug, PartialEq, Eq, Hash, Default)]
 pub struct Locals {
-    /// How many locals.
+    /// How many there are.
     pub count: u32,
     /// Their type. In `locals` a type of the module is named by the type section: `list` is
     /// [`numbers::OF_SECTION`](crate::numbers::OF_SECTION), and `heap` is
@@ -320,7 +321,7 @@ pub struct BranchHint {
 pub struct PassiveSegment {
     /// Its number in the element section.
     pub segment: u32,
-    /// Its index among the passive ones, as of `passive_elements`.
+    /// Its index among the passive ones: in `passive_elements`, and in `passive_items`.
     pub passive: u32,
 }
 

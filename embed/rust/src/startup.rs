@@ -176,9 +176,9 @@ impl Plan<'_> {
     }
 
     /// The images of memories, by the index of each. If a kept element segment can trap, write the
-    /// element segments before you map images, or drop the instance's memories after such a trap:
-    /// code in an imported table could see data early. If you map no image and write each segment
-    /// yourself, there is no exception.
+    /// element segments before you map images, or make the instance's memories zeros after such a
+    /// trap: code in an imported table could see data that is never written. If you map no image and
+    /// write each segment yourself, there is no exception.
     ///
     /// ```
     /// # let bytes = std::fs::read(concat!(env!("CARGO_MANIFEST_DIR"), "/../../examples/linked.wasm"))?;
@@ -230,7 +230,7 @@ impl Plan<'_> {
         self.record.table_images.as_slice().iter().map(move |span| part(cells, *span))
     }
 
-    /// The first value of the cells of each defined table; none where they begin as null.
+    /// The first value of the cells of each defined table; `None` where they begin as null.
     ///
     /// ```
     /// # let bytes = std::fs::read(concat!(env!("CARGO_MANIFEST_DIR"), "/../../examples/linked.wasm"))?;
@@ -293,7 +293,7 @@ pub struct Region<'p> {
     pub name: &'p str,
     /// Where in the context it begins, in bytes.
     pub begin: u32,
-    /// In bytes.
+    /// Its size, in bytes.
     pub size: u32,
 }
 
