@@ -1,50 +1,32 @@
 -- The entries of a list are of different kinds: together these are no more than the entries.
-use Rattle.std.proofs.Common.{◌≤◌, ◌+◌, ℕ, List, [], ◌∷◌, ◌++◌, length, Option, arith}
-use Rattle.std.specs.List.{filter_map, cons_option}
+use Rattle.std.proofs.Common.{◌≤◌, ◌+◌, ℕ, List, length, map, Option, arith}
+use Rattle.std.specs.List.{filter_map}
+use Rattle.std.proofs.lemmas.List.{length-map}
 use Rattle.wasm_spec.specs.declared.entities.TypeRef.{TypeRef}
-use Rattle.wasm_spec.specs.declared.entities.TypeRef.TheVariants as imported
-use Rattle.wasm_spec.specs.Module.{Import, function_import, memory_import, tag_import, DataKind, Passive, Active, Segment, Element, ElementKind, ElementItems, PassiveElement, DeclaredElement, ActiveElement}
+use Rattle.wasm_spec.specs.Module.{Import, function_import, memory_import, tag_import, Segment, Element}
 use Rattle.wasm_convert.specs.Conversion.{LookUp}
 use Rattle.replay_spec.specs.Data.{ActiveSegment, active_of_kind}
+use Rattle.replay_spec.specs.Held.{held_segment}
 use Rattle.replay_spec.specs.Startup.{passive_elements}
-use Rattle.module_environ.specs.Initialisers.{active_in, active_elements, passive_data_in, passive_data_from}
+use Rattle.module_environ.specs.Initialisers.{active_elements, passive_data_from}
+use Rattle.translate.proofs.EntryCounts as counts
 
 abbrev of : {A : Type 0} → (TypeRef → Option A) → List Import → ℕ
 of kind is = length (filter_map (λ i. kind i.type) is)
 
 -- an import is of one kind
 pub kinds-few : (is : List Import) → of function_import is + of memory_import is + of tag_import is ≤ length is
-kinds-few [] = omega arith
-kinds-few (i ∷ is) = by i.type (kinds-few is) where
-  more : {A : Type 0} → Option A → (TypeRef → Option A) → ℕ
-  more o kind = length (cons_option o (filter_map (λ i. kind i.type) is))
-
-  by : (t : TypeRef) → of function_import is + of memory_import is + of tag_import is ≤ length is
-      → more (function_import t) function_import + more (memory_import t) memory_import + more (tag_import t) tag_import ≤ length (i ∷ is)
-  by (imported.Func type) e = omega (arith, e)
-  by (imported.Table type) e = omega (arith, e)
-  by (imported.Memory type) e = omega (arith, e)
-  by (imported.Global type) e = omega (arith, e)
-  by (imported.Tag type) e = omega (arith, e)
+kinds-few is = let all = counts.kinds-few is in omega (arith, all)
 
 -- an element segment is active or passive, or neither
 pub elements-few : (look : LookUp) (es : List Element) → length (active_elements look es) + length (passive_elements es) ≤ length es
-elements-few look [] = omega arith
-elements-few look (e ∷ es) = by e.kind e.items (elements-few look es) where
-  by : (k : ElementKind) (items : ElementItems) → length (active_elements look es) + length (passive_elements es) ≤ length es
-      → length (cons_option (active_in look k items) (active_elements look es)) + length (passive_elements (record e { kind = k } ∷ es)) ≤ length (e ∷ es)
-  by (ActiveElement table offset) items few = omega (arith, few)
-  by PassiveElement items few = omega (arith, few)
-  by DeclaredElement items few = omega (arith, few)
+elements-few = counts.elements-few
 
 abbrev active_among : List Segment → List ActiveSegment
 active_among ss = filter_map (λ s. active_of_kind s.kind s.bytes) ss
 
 -- a data segment is active or passive
 pub segments-few : (n : ℕ) (ss : List Segment) → length (active_among ss) + length (passive_data_from n ss) ≤ length ss
-segments-few n [] = omega arith
-segments-few n (s ∷ ss) = by s.kind (segments-few (n + 1) ss) where
-  by : (k : DataKind) → length (active_among ss) + length (passive_data_from (n + 1) ss) ≤ length ss
-      → length (cons_option (active_of_kind k s.bytes) (active_among ss)) + length (passive_data_in k n s.bytes ++ passive_data_from (n + 1) ss) ≤ length (s ∷ ss)
-  by Passive few = omega (arith, few)
-  by (Active memory offset) few = omega (arith, few)
+segments-few n ss = omega (arith, counts.segments-few n ss,
+    length-map (λ (s : ActiveSegment). s.bytes) (map held_segment (active_among ss)), length-map held_segment (active_among ss),
+    length-map (λ (p : ℕ × List ℕ). p.1) (passive_data_from n ss))

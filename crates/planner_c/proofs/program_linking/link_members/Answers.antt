@@ -39,13 +39,13 @@ returns-in-Ok-clause-told c = λ success.
 
 -- the program is refused
 
-pub returns-clause-fault : goal.returns-clause-fault
-returns-clause-fault c = λ is.
+pub returns-in-Err-clause-fault : goal.returns-in-Err-clause-fault
+returns-in-Err-clause-fault c = λ is.
     fault-of c.args.program.now c.in-Err.refusal c.tell_fault.new.out (λ k e. c.in-Err.ensures.duplicate k (ap Err e))
     (λ k e. (c.in-Err.ensures.crowded k).0 (ap Err e)) (c.tell_fault.ensures.told is)
 
-pub returns-clause-complete : goal.returns-clause-complete
-returns-clause-complete c = λ right is.
+pub returns-in-Err-clause-complete : goal.returns-in-Err-clause-complete
+returns-in-Err-clause-complete c = λ right is.
     elim (c.in-Err.ensures.complete right.fits right.once) [
       | inl ok ↦ true≢false (sym ok)
       | inr memory ↦
