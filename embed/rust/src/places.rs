@@ -77,7 +77,8 @@ impl fmt::Display for Place {
 /// modules.
 ///
 /// ```
-/// assert_eq!(bobbinazure::locate(b"\0asm")?.unwrap().to_string(), "byte 4, the input does not begin with the header of a module");
+/// let place = bobbinazure::locate(b"\0asm")?.expect("it is refused");
+/// assert_eq!(place.to_string(), "byte 4, the input ends before the header of a module does");
 /// assert_eq!(bobbinazure::locate(b"\0asm\x01\0\0\0")?, None);
 /// # Ok::<(), bobbinazure::Error>(())
 /// ```
