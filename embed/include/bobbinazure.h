@@ -128,13 +128,14 @@ enum {
     BOBBINAZURE_TAG = 4
 };
 
-/* Which list of types an index is of. In a plan all indices are of its interned types. */
+/* Which list of types the index in a value type is of. In a plan it is that of the interned types, in
+ * locals of bodies that of the type section. */
 enum {
     BOBBINAZURE_NO_INDEX = 0,
     BOBBINAZURE_OF_ENGINE = 1,
     BOBBINAZURE_OF_MODULE = 2,
     BOBBINAZURE_OF_GROUP = 3,
-    BOBBINAZURE_OF_SECTION = 4,     /* the type section, `declared`: only in locals of bodies, as the next */
+    BOBBINAZURE_OF_SECTION = 4,     /* the type section, `declared`: in locals of bodies alone */
     BOBBINAZURE_OF_IDS = 5          /* types by ids, which no plan has */
 };
 
@@ -394,14 +395,16 @@ typedef struct {
 
 /* The image of a memory. */
 typedef struct {
-    uint32_t memory;  /* The memory. */
+    uint32_t memory;  /* The memory, by its index. */
     uint32_t runtime; /* The runtime data that holds it. */
-    uint64_t offset;  /* Its address in the memory, in bytes. */
+    /* Its address in the memory, in bytes: a multiple of data_align, as its length is. */
+    uint64_t offset;
 } bobbinazure_image;
 
-/* A data segment that remains to be written. */
+/* A data segment that remains to be written. One of kind BOBBINAZURE_AT_BYTE is an image, which
+   is among images too. */
 typedef struct {
-    uint32_t memory;  /* The memory that it writes. */
+    uint32_t memory;  /* The memory that it writes, by its index. */
     uint32_t runtime; /* The runtime data that it writes. */
     /* How offset gives its address, from BOBBINAZURE_AT_BYTE on: 0 as a planned address, 1 as a
        constant, 2 as a global, 3 not at all. */
@@ -471,11 +474,12 @@ typedef struct {
 
 /* A branch hint. */
 typedef struct {
-    uint32_t function; /* The function, by its index. */
+    /* The function, by the index that the section names. Nothing checks it, or the offset. */
+    uint32_t function;
     /* Where the branch is, in bytes from the beginning of the function's body, which begins with
        its locals. */
     uint32_t offset;
-    uint32_t taken;    /* Whether it is likely to be taken. */
+    uint32_t taken; /* Whether it is likely to be taken. */
 } bobbinazure_branch_hint;
 
 /* Which passive element segment a segment of the module is. */
@@ -524,7 +528,7 @@ typedef struct {
 /* A field of a layout. */
 typedef struct {
     uint32_t offset; /* Where in the object it begins, in bytes. */
-    uint32_t is_ref; /* Whether it is a reference that is collected. */
+    uint32_t is_ref; /* Whether it is a reference that is collected: it has four bytes. */
 } bobbinazure_layout_field;
 
 /* An interned type. */
@@ -820,7 +824,7 @@ typedef struct {
     /* The range of each runtime data; the ranges are end to end from 0. */
     BOBBINAZURE_LIST(bobbinazure_range) runtime_ranges;
     BOBBINAZURE_LIST(bobbinazure_image) images;                 /* The images of memories. */
-    /* The data segments that remain to be written, in order. */
+    /* The data segments that remain to be written, in order; the images, where there are some. */
     BOBBINAZURE_LIST(bobbinazure_segment) segments;
     /* The passive data segments that keep their bytes. */
     BOBBINAZURE_LIST(bobbinazure_passive) passive;
@@ -837,7 +841,7 @@ typedef struct {
     BOBBINAZURE_LIST(bobbinazure_function_name) function_names; /* The names of functions. */
     /* The functions that have hints of branches. */
     BOBBINAZURE_LIST(bobbinazure_hints) hints;
-    /* The branch hints, function by function, those of a function in order. */
+    /* The branch hints, function by function, those of a function in the order of the section. */
     BOBBINAZURE_LIST(bobbinazure_branch_hint) branch_hints;
     /* Which segments of the element section are passive, in order. */
     BOBBINAZURE_LIST(bobbinazure_passive_segment) passive_segments;
@@ -1120,9 +1124,9 @@ uint32_t bobbinazure_link(const uint8_t *exporter, size_t exporter_len, const ui
  *
  *   PLANNED        it has the indices of types and an answer for each import;
  *                  bobbinazure_program_free frees them
- *   REFUSED        its first five fields say why, and at which module: the first that is refused; if
- *                  all have plans, the first with too many types; else the first with a duplicate
- *                  export
+ *   REFUSED        its first five fields say why, and at which module, from 0 on: the first that is
+ *                  refused; if all have plans, the first with too many types or the first that has
+ *                  both names of an export of an earlier one
  *   NO_MEMORY      it is unchanged
  *   WRONG_OPTIONS  it is unchanged; so it is where a name is not UTF-8 */
 uint32_t bobbinazure_link_program(const bobbinazure_named_module *modules, size_t count,
@@ -1228,8 +1232,9 @@ static inline int bobbinazure_memory_may_move(const bobbinazure_memory *memory, 
     return may_move && !memory->shared && memory->minimum != memory->maximum && memory->maximum_bytes > reservation;
 }
 
-/* Whether guard pages alone can check the accesses to a memory, on a host that turns their faults
- * into traps. Behind the `reservation` bytes that are reserved for the memory are `guard_size`
+/* Whether an address of 32 bits cannot leave what is reserved for a memory and its guard pages, on a
+ * host that turns their faults into traps. The static offset of an access, and its width, must fit
+ * behind that address too: the engine checks it. Behind the `reservation` bytes that are reserved for the memory are `guard_size`
  * bytes of such pages. The host's page size is given as an exponent of 2. */
 static inline int bobbinazure_can_elide_bounds_check(const bobbinazure_memory *memory, uint64_t reservation,
                                                      uint64_t guard_size, uint8_t host_page_size_log2) {

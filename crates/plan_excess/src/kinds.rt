@@ -18,8 +18,8 @@ pub enum ExcessKind {
     /// An object of the type with this index has more than 4294967295 bytes; of each type before
     /// it, it has not. Of an array, the part before its elements counts.
     Object { type_index: u32 },
-    /// An exception of this tag has more than 4294967295 bytes; no object of a type and no
-    /// exception of a tag before it has.
+    /// An exception of this tag has more than 4294967295 bytes; no object of any type has, and no
+    /// exception of a tag before this one.
     Exception { tag: u32 },
     /// The context of an instance has more than 4294967295 bytes; no object and no exception has.
     Context,

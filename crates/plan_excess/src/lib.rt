@@ -14,8 +14,8 @@
 //! }
 //! ```
 //!
-//! The module is planned once more, and where it is too large translated once more. Images are
-//! measured, and none is made.
+//! The module is planned once more, and where it is too large translated once more. To find the
+//! memory, images are measured and none is made.
 //!
 //! Read on: `kinds`, then `locating`; `specs/Excess.antt` says what an excess is.
 #![tactic(auto)]

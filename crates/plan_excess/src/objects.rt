@@ -83,7 +83,8 @@ fn next_number(entry: u32) -> Result<u32, OutOfMemory>
     entry.checked_add(1).ok_or(OutOfMemory)
 }
 
-/// Whether objects of the interned type have at most 4294967295 bytes.
+/// Whether objects of the interned type have at most 4294967295 bytes; an index that is none of the
+/// module has no objects.
 fn is_small(
     alloc: Global,
     collector: Collector,

@@ -72,7 +72,7 @@ pub struct MemoriesRecord<'d> {
     pub runtime_ranges: &'d [NumberRange],
     /// The images of memories.
     pub images: &'d [ImageRow],
-    /// The data segments that remain to be written, in order.
+    /// The data segments that remain to be written, in order; the images, where there are some.
     pub segments: &'d [SegmentRow],
     /// The passive data segments that keep their bytes.
     pub passive: &'d [PassiveRow],
@@ -192,7 +192,7 @@ pub struct FunctionsRecord<'d> {
     pub names: &'d [FunctionNameRow<'d>],
     /// The functions that have hints of branches.
     pub hints: &'d [HintsRow],
-    /// The branch hints, function by function, those of a function in order.
+    /// The branch hints, function by function, those of a function in the order of the section.
     pub branch_hints: &'d [BranchHintRow],
     /// Which segments of the element section are passive, in order.
     pub passive_segments: &'d [PassiveSegmentRow],

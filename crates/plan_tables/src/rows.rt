@@ -195,19 +195,20 @@ pub struct TagRow {
 #[repr(C)]
 #[derive(Clone, Copy)]
 pub struct ImageRow {
-    /// The memory.
+    /// The memory, by its index.
     pub memory: u32,
     /// The runtime data that holds it.
     pub runtime: u32,
-    /// Its address in the memory, in bytes.
+    /// Its address in the memory, in bytes: a multiple of `data_align`, as its length is.
     pub offset: u64,
 }
 
-/// A data segment that remains to be written: `bobbinazure_segment`.
+/// A data segment that remains to be written. One of kind `BOBBINAZURE_AT_BYTE` is an image, which
+/// is among `images` too: `bobbinazure_segment`.
 #[repr(C)]
 #[derive(Clone, Copy)]
 pub struct SegmentRow {
-    /// The memory that it writes.
+    /// The memory that it writes, by its index.
     pub memory: u32,
     /// The runtime data that it writes.
     pub runtime: u32,
@@ -310,7 +311,7 @@ pub struct HintsRow {
 #[repr(C)]
 #[derive(Clone, Copy)]
 pub struct BranchHintRow {
-    /// The function, by its index.
+    /// The function, by the index that the section names. Nothing checks it, or the offset.
     pub function: u32,
     /// Where the branch is, in bytes from the beginning of the function's body, which begins with
     /// its locals.
@@ -392,7 +393,7 @@ pub struct LayoutRow {
 pub struct LayoutFieldRow {
     /// Where in the object it begins, in bytes.
     pub offset: u32,
-    /// Whether it is a reference that is collected.
+    /// Whether it is a reference that is collected: it has four bytes.
     pub is_ref: u32,
 }
 

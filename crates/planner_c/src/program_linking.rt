@@ -38,14 +38,15 @@ pub extern "C" fn bobbinazure_link_program<'d>(
     // import.
     ensures linked { result ≡ 0 → LinksProgram options.now modules.now out.new }
     // The record reports the first module that has no plan, and why; or, where all have one, the
-    // first module with which the program has too many types, or repeats two names of an export.
+    // first module with which the program has too many types, or that has both names of an export
+    // of an earlier one.
     ensures refused { result ≡ 1 → RefusesProgram options.now modules.now out.new }
-    // Wrong options, or a name that is not UTF-8, are reported, exactly; where nothing is answered,
+    // Wrong options, or a name that is not UTF-8, are reported, exactly; there, and without memory,
     // nothing is changed.
     ensures usage { (result ≡ 2) ↔ ¬ (AreRight options.now × All HasName modules.now) }
     ensures same { (result ≡ 2) ⊎ (result ≡ 5) → out.new ≡ out.old }
-    // Valid modules are not refused, where their types are not too many and no export repeats the
-    // names of another.
+    // Valid modules are not refused, where their types are not too many and no export has both names
+    // of an earlier one.
     ensures complete { All (IsValidModule options.now) modules.now
         → ((program : List Member) → AllZip (IsMemberOf options.now) modules.now program → HasNoFault program) → result ≢ 1 }
 {
@@ -125,7 +126,7 @@ fn tell_fault(refusal: ProgramError, out: &mut ProgramRecord<'_>) -> u32
     }
 }
 
-// Puts a cause and a module into a record. Answers 1.
+/// Puts a cause, from `BOBBINAZURE_CAUSE_MODULE` on, and a module into a record. Answers 1.
 fn tell_cause(cause: u32, place: usize, out: &mut ProgramRecord<'_>) -> u32
     ensures status { result ≡ 1 }
     ensures told { TellsCause cause place out.new }

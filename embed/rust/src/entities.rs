@@ -191,8 +191,9 @@ impl Memory {
         may_move && !self.shared && self.max() != Some(self.minimum) && self.maximum_byte_size().unwrap_or(u64::MAX) > reservation
     }
 
-    /// Whether guard pages alone can check the accesses, on a host that turns their faults into
-    /// traps. Behind the `reservation` bytes that are reserved for the memory are `guard_size` bytes
+    /// Whether an address of 32 bits cannot leave what is reserved and its guard pages, on a host
+    /// that turns their faults into traps. The static offset of an access, and its width, must fit
+    /// behind that address too: the engine checks it. Behind the `reservation` bytes that are reserved for the memory are `guard_size` bytes
     /// of such pages. The host's page size is given as an exponent of 2.
     ///
     /// ```

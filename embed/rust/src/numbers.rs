@@ -141,8 +141,6 @@ pub const GLOBAL: u32 = 3;
 /// tag
 pub const TAG: u32 = 4;
 
-// Which list of types an index is of. In a plan all indices are of its interned types.
-
 /// no index
 pub const NO_INDEX: u32 = 0;
 /// of engine
@@ -151,7 +149,7 @@ pub const OF_ENGINE: u32 = 1;
 pub const OF_MODULE: u32 = 2;
 /// of group
 pub const OF_GROUP: u32 = 3;
-/// the type section, `declared`: only in locals of bodies, as the next
+/// the type section, `declared`: in locals of bodies alone
 pub const OF_SECTION: u32 = 4;
 /// types by ids, which no plan has
 pub const OF_IDS: u32 = 5;

@@ -88,7 +88,7 @@ pub(crate) struct PlanRecord {
     pub(crate) runtime_ranges: List<Range>,
     /// The images of memories.
     pub(crate) images: List<Image>,
-    /// The data segments that remain to be written, in order.
+    /// The data segments that remain to be written, in order; the images, where there are some.
     pub(crate) segments: List<Segment>,
     /// The passive data segments that keep their bytes.
     pub(crate) passive: List<Passive>,
@@ -106,7 +106,7 @@ pub(crate) struct PlanRecord {
     pub(crate) function_names: List<FunctionName>,
     /// The functions that have hints of branches.
     pub(crate) hints: List<Hints>,
-    /// The branch hints, function by function, those of a function in order.
+    /// The branch hints, function by function, those of a function in the order of the section.
     pub(crate) branch_hints: List<BranchHint>,
     /// Which segments of the element section are passive, in order.
     pub(crate) passive_segments: List<PassiveSegment>,

@@ -189,19 +189,20 @@ pub struct Tag {
 #[repr(C)]
 #[derive(Clone, Copy, Debug, PartialEq, Eq, Hash, Default)]
 pub struct Image {
-    /// The memory.
+    /// The memory, by its index.
     pub memory: u32,
     /// The runtime data that holds it.
     pub runtime: u32,
-    /// Its address in the memory, in bytes.
+    /// Its address in the memory, in bytes: a multiple of `data_align`, as its length is.
     pub offset: u64,
 }
 
-/// A data segment that remains to be written.
+/// A data segment that remains to be written. One of kind
+/// [`numbers::AT_BYTE`](crate::numbers::AT_BYTE) is an image, which is among `images` too.
 #[repr(C)]
 #[derive(Clone, Copy, Debug, PartialEq, Eq, Hash, Default)]
 pub struct Segment {
-    /// The memory that it writes.
+    /// The memory that it writes, by its index.
     pub memory: u32,
     /// The runtime data that it writes.
     pub runtime: u32,
@@ -306,7 +307,7 @@ pub struct Hints {
 #[repr(C)]
 #[derive(Clone, Copy, Debug, PartialEq, Eq, Hash, Default)]
 pub struct BranchHint {
-    /// The function, by its index.
+    /// The function, by the index that the section names. Nothing checks it, or the offset.
     pub function: u32,
     /// Where the branch is, in bytes from the beginning of the function's body, which begins with
     /// its locals.
@@ -388,7 +389,7 @@ pub struct Layout {
 pub struct LayoutField {
     /// Where in the object it begins, in bytes.
     pub offset: u32,
-    /// Whether it is a reference that is collected.
+    /// Whether it is a reference that is collected: it has four bytes.
     pub is_ref: u32,
 }
 
