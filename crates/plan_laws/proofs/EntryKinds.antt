@@ -27,6 +27,10 @@ active_among ss = filter_map (λ s. active_of_kind s.kind s.bytes) ss
 
 -- a data segment is active or passive
 pub segments-few : (n : ℕ) (ss : List Segment) → length (active_among ss) + length (passive_data_from n ss) ≤ length ss
-segments-few n ss = omega (arith, counts.segments-few n ss,
-    length-map (λ (s : ActiveSegment). s.bytes) (map held_segment (active_among ss)), length-map held_segment (active_among ss),
-    length-map (λ (p : ℕ × List ℕ). p.1) (passive_data_from n ss))
+segments-few n ss = omega (
+  arith,
+  counts.segments-few n ss,
+  length-map (λ (s : ActiveSegment). s.bytes) (map held_segment (active_among ss)),
+  length-map held_segment (active_among ss),
+  length-map (λ (p : ℕ × List ℕ). p.1) (passive_data_from n ss),
+)

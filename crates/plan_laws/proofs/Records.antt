@@ -140,7 +140,7 @@ bodies-tell : (t u : ModuleTranslation) → SameTranslation t u → (r : BodiesR
 bodies-tell t u same r c = record {
   rows = c.rows ∙ bodies-by (bodies_in t) 0 t.function_body_inputs ∙ (λ i. bodies_by (sized_bodies (same.wasm i) (same.code_place i)) 0 (same.bodies i)) ∙ sym (bodies-by (bodies_in u) 0 u.function_body_inputs);
   locals = c.locals ∙ lines-told view_body (λ (b : FunctionBodyData). map locals_row b.body.locals.items) (λ (b : Body). map locals_row b.locals) (λ b. refl)
-    t.function_body_inputs u.function_body_inputs same.bodies;
+      t.function_body_inputs u.function_body_inputs same.bodies;
 }
 
 -- ---- for a debugger
