@@ -1,14 +1,12 @@
 -- The entries of a list are of different kinds: together these are no more than the entries.
-use Rattle.std.proofs.Common.{◌≤◌, ◌+◌, ℕ, List, length, map, Option, arith}
-use Rattle.std.specs.List.{filter_map}
-use Rattle.std.proofs.lemmas.List.{length-map}
+use Rattle.std.proofs.Common.{◌≤◌, ◌+◌, ℕ, List, [], ◌∷◌, ◌++◌, length, Option, arith}
+use Rattle.std.specs.List.{filter_map, cons_option}
 use Rattle.wasm_spec.specs.declared.entities.TypeRef.{TypeRef}
-use Rattle.wasm_spec.specs.Module.{Import, function_import, memory_import, tag_import, Segment, Element}
+use Rattle.wasm_spec.specs.Module.{Import, function_import, memory_import, tag_import, DataKind, Passive, Active, Segment, Element}
 use Rattle.wasm_convert.specs.Conversion.{LookUp}
 use Rattle.replay_spec.specs.Data.{ActiveSegment, active_of_kind}
-use Rattle.replay_spec.specs.Held.{held_segment}
 use Rattle.replay_spec.specs.Startup.{passive_elements}
-use Rattle.module_environ.specs.Initialisers.{active_elements, passive_data_from}
+use Rattle.module_environ.specs.Initialisers.{active_elements, passive_data_in, passive_data_from}
 use Rattle.translate.proofs.EntryCounts as counts
 
 abbrev of : {A : Type 0} → (TypeRef → Option A) → List Import → ℕ
@@ -27,10 +25,9 @@ active_among ss = filter_map (λ s. active_of_kind s.kind s.bytes) ss
 
 -- a data segment is active or passive
 pub segments-few : (n : ℕ) (ss : List Segment) → length (active_among ss) + length (passive_data_from n ss) ≤ length ss
-segments-few n ss = omega (
-  arith,
-  counts.segments-few n ss,
-  length-map (λ (s : ActiveSegment). s.bytes) (map held_segment (active_among ss)),
-  length-map held_segment (active_among ss),
-  length-map (λ (p : ℕ × List ℕ). p.1) (passive_data_from n ss),
-)
+segments-few n [] = omega arith
+segments-few n (s ∷ ss) = by s.kind (segments-few (n + 1) ss) where
+  by : (k : DataKind) → length (active_among ss) + length (passive_data_from (n + 1) ss) ≤ length ss
+      → length (cons_option (active_of_kind k s.bytes) (active_among ss)) + length (passive_data_in k n s.bytes ++ passive_data_from (n + 1) ss) ≤ length (s ∷ ss)
+  by Passive few = omega (arith, few)
+  by (Active memory offset) few = omega (arith, few)
