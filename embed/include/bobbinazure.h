@@ -1239,7 +1239,7 @@ static inline int bobbinazure_memory_may_move(const bobbinazure_memory *memory, 
 static inline int bobbinazure_can_elide_bounds_check(const bobbinazure_memory *memory, uint64_t reservation,
                                                      uint64_t guard_size, uint8_t host_page_size_log2) {
     uint64_t guarded = guard_size > UINT64_MAX - reservation ? UINT64_MAX : reservation + guard_size;
-    return memory->page_size_log2 >= host_page_size_log2 && !memory->wide && guarded >= UINT64_C(4294967296);
+    return memory->page_size_log2 >= host_page_size_log2 && !memory->wide && guarded >= (uint64_t)1 << 32;
 }
 
 /* The options of the program without a word of the command line. */
