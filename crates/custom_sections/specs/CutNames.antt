@@ -4,7 +4,7 @@ use Rattle.wasm_spec.specs.Parts.{Part, ◌>>=◌, Never, gives, unsigned, choos
 use Rattle.custom_sections.specs.NameLists.{NameLists, no_names, joined_all}
 use Rattle.custom_sections.specs.NameGrammar.{naming, local_naming, name_subsection}
 
--- one part, or another where the bytes spell nothing of the first
+-- `first`; and `second` of bytes that spell nothing of `first`
 abbrev pub otherwise : {A : Type 0} → Part A → Part A → Part A
 otherwise {A} first second = record {
   spells = λ bytes x. first.spells bytes x ⊎ (((y : A) → ¬ first.spells bytes y) × second.spells bytes x);
@@ -15,32 +15,32 @@ otherwise {A} first second = record {
 abbrev pub tells_nothing : {A : Type 0} → Part (List A)
 tells_nothing = all_bytes_as (λ bytes. [])
 
--- n elements, and whatever follows; the first with a fault is the last, and tells what another
--- part says
+-- n elements, and whatever follows. Where the next bytes spell no element, the list ends with what
+-- `cut` says of them
 abbrev pub elements_told : {A : Type 0} → Part A → Part (List A) → ℕ → Part (List A)
 elements_told part cut zero = tells_nothing
 elements_told part cut (suc n) = otherwise (part >>= λ x. elements_told part cut n >>= λ xs. gives (x ∷ xs)) cut
 
--- a count, and that many elements
+-- a count, and that many elements up to the first fault; nothing where no count is spelled
 abbrev pub vector_told : {A : Type 0} → Part A → Part (List A) → Part (List A)
 vector_told part cut = otherwise (unsigned 32 >>= λ count. elements_told part cut count) tells_nothing
 
--- names of indices
+-- names of indices, up to the first fault
 abbrev pub namings_told : Part (List (ℕ × List ℕ))
 namings_told = vector_told naming tells_nothing
 
--- a function and the names of its locals, with a fault in it
+-- a function and the names of its locals, where these have a fault: the names before it
 abbrev pub cut_local_naming : Part (List (ℕ × List (ℕ × List ℕ)))
 cut_local_naming = otherwise (unsigned 32 >>= λ function. namings_told >>= λ names. gives ((function, names) ∷ [])) tells_nothing
 
--- the contents of a subsection, with a fault in them
+-- the contents of a subsection that have a fault: the names before it
 abbrev pub cut_contents : Bool → ℕ → Part NameLists
 cut_contents locals id =
     choose (id == 1) (namings_told >>= λ names. gives (record no_names { functions = names }))
     (choose ((id == 2) && locals) (vector_told local_naming cut_local_naming >>= λ names. gives (record no_names { locals = names }))
     (all_bytes_as (λ bytes. no_names)))
 
--- a subsection with a fault in it, and whatever follows
+-- a subsection that has a fault, and whatever follows: the names before the fault
 abbrev pub cut_subsection : Bool → Part (List NameLists)
 cut_subsection locals =
     otherwise (first_byte (λ id. sized (cut_contents locals id)) >>= λ names. all_bytes_as (λ rest. names ∷ [])) tells_nothing

@@ -42,11 +42,11 @@ impl<'d> ModuleTranslation<'d> {
     {
         let segments = self.memory_init.unprocessed();
         let passive = &self.private_parts.passive_data;
-        let beside = passive_length(passive)?;
+        let passive_bytes = passive_length(passive)?;
         let imported = self.module.num_imported_memories;
         let memories = self.module.memories.as_slice();
-        let beside = u64::from(beside);
-        match plan_images(alloc, settings, memories, imported, segments, beside)? {
+        let passive_bytes = u64::from(passive_bytes);
+        match plan_images(alloc, settings, memories, imported, segments, passive_bytes)? {
             Some(images) => Ok(Some(images)),
             None => {
                 check_total(segments, passive)?;

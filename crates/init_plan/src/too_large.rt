@@ -20,6 +20,9 @@ impl ModuleTranslation<'_> {
     /// The memory with whose image the runtime data pass 4294967295 bytes; those of passive
     /// segments count first. `None` where the images do not make them so large. No image is made,
     /// and where images are off nothing is allocated.
+    ///
+    /// # Errors
+    /// `OutOfMemory` where an allocation fails.
     #[tactic(auto, using(crate::proofs::Sized::none_large))]
     pub fn too_large_at(
         &self,
@@ -40,7 +43,7 @@ impl ModuleTranslation<'_> {
         ensures none { IfOk result (λ o. IfNone o (data_total self.now < 2 ^ 32
             → WillHaveRuntimeSize (image_options tunables.now page_size max_image) self.now (λ size. 2 ^ 32 ≤ size) → ⊥)) }
     {
-        let Ok(beside) = passive_length(&self.private_parts.passive_data) else {
+        let Ok(passive_bytes) = passive_length(&self.private_parts.passive_data) else {
             return Ok(None);
         };
         let settings = ImageSettings {
@@ -51,8 +54,8 @@ impl ModuleTranslation<'_> {
         let segments = self.memory_init.unprocessed();
         let imported = self.module.num_imported_memories;
         let memories = self.module.memories.as_slice();
-        let beside = u64::from(beside);
-        match too_large_at(alloc, settings, memories, imported, segments, beside)? {
+        let passive_bytes = u64::from(passive_bytes);
+        match too_large_at(alloc, settings, memories, imported, segments, passive_bytes)? {
             None => Ok(None),
             Some(memory) => Ok(Some(MemoryIndex::new(memory))),
         }

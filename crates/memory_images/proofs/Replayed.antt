@@ -41,10 +41,10 @@ module _ (imports : ℕ) (memories : List ImageMemory) (active : List ActiveSegm
 
 -- images of the segments pass, or fit, where those of the pieces do
 module _ (imports : ℕ) (memories : List ImageMemory) (active : List ActiveSegment) (all : List (Vec Laid)) (are : AreLaid imports memories active all)
-    (options : ImageOptions) (beside : ℕ) {E : Type 0} where
+    (options : ImageOptions) (passive : ℕ) {E : Type 0} where
   pub pass_here : IsStatic options imports memories active → (r : Result (Option ℕ) E)
-      → IfOk r (λ o. IfSome o (λ k. (images : List (Option MemoryImage)) → AreListed (λ m. ImageOf options.page (contents_at all m)) (length all) images → PassesAt images beside k))
-      → IfOk r (λ o. IfSome o (λ k. ImagesPassAt options imports memories active beside k))
+      → IfOk r (λ o. IfSome o (λ k. (images : List (Option MemoryImage)) → AreListed (λ m. ImageOf options.page (contents_at all m)) (length all) images → PassesAt images passive k))
+      → IfOk r (λ o. IfSome o (λ k. ImagesPassAt options imports memories active passive k))
   pass_here static (Ok None) h = tt
   pass_here static (Ok (Some k)) h = record {
     static = static;
@@ -54,9 +54,9 @@ module _ (imports : ℕ) (memories : List ImageMemory) (active : List ActiveSegm
 
   pub fit_here : (n : ℕ) → length all ≡ n → (r : Result (Option ℕ) E)
       → IfOk r (λ o. IfNone o ((images : List (Option MemoryImage)) → AreListed (λ m. ImageOf options.page (contents_at all m)) (length all) images
-      → beside + sum_by length (image_bytes images) < 2 ^ 32))
+      → passive + sum_by length (image_bytes images) < 2 ^ 32))
       → IfOk r (λ o. IfNone o ((images : List (Option MemoryImage)) → IsStatic options imports memories active → AreImages options.page n active images
-      → beside + sum_by length (image_bytes images) < 2 ^ 32))
+      → passive + sum_by length (image_bytes images) < 2 ^ 32))
   fit_here n count (Ok None) h = λ images _ listed. h images (of_laid imports memories active all are n options.page count images listed)
   fit_here n count (Ok (Some k)) h = tt
   fit_here n count (Err e) h = tt

@@ -70,17 +70,17 @@ module _ (page : ℕ) (contents : ℕ → ℕ → ℕ) (n : ℕ) (spans : List (
       (listed_first (λ m. SpanOf page (contents m)) n k spans le listed) (listed_first (λ m. ImageOf page (contents m)) n k images le are)
 
   -- images pass where the spans of the same contents do
-  pub pass_there : (beside : ℕ) (o : Option ℕ) → IfSome o (λ k. k < length spans) → IfSome o (λ k. beside + sum_by span_size (take k spans) < 2 ^ 32)
-      → IfSome o (λ k. 2 ^ 32 ≤ beside + sum_by span_size (take (k + 1) spans))
-      → IfSome o (λ k. (images : List (Option MemoryImage)) → AreListed (λ m. ImageOf page (contents m)) n images → PassesAt images beside k)
-  pass_there beside None l fits passes = tt
-  pass_there beside (Some k) l fits passes = λ images are. let c = listed.count in record {
+  pub pass_there : (passive : ℕ) (o : Option ℕ) → IfSome o (λ k. k < length spans) → IfSome o (λ k. passive + sum_by span_size (take k spans) < 2 ^ 32)
+      → IfSome o (λ k. 2 ^ 32 ≤ passive + sum_by span_size (take (k + 1) spans))
+      → IfSome o (λ k. (images : List (Option MemoryImage)) → AreListed (λ m. ImageOf page (contents m)) n images → PassesAt images passive k)
+  pass_there passive None l fits passes = tt
+  pass_there passive (Some k) l fits passes = λ images are. let c = listed.count in record {
     fits = let same = first_sums images are k (omega (arith, c, l)) in omega (arith, same, fits);
     passes = let same = first_sums images are (k + 1) (omega (arith, c, l)) in omega (arith, same, passes);
   }
 
   -- they fit where the spans do
-  pub fit_there : (beside : ℕ) (o : Option ℕ) → IfNone o (beside + sum_by span_size spans < 2 ^ 32)
-      → IfNone o ((images : List (Option MemoryImage)) → AreListed (λ m. ImageOf page (contents m)) n images → beside + sum_by length (image_bytes images) < 2 ^ 32)
-  fit_there beside None fits = λ images are. let same = same_sums page contents n spans images listed are in omega (arith, same, fits)
-  fit_there beside (Some k) fits = tt
+  pub fit_there : (passive : ℕ) (o : Option ℕ) → IfNone o (passive + sum_by span_size spans < 2 ^ 32)
+      → IfNone o ((images : List (Option MemoryImage)) → AreListed (λ m. ImageOf page (contents m)) n images → passive + sum_by length (image_bytes images) < 2 ^ 32)
+  fit_there passive None fits = λ images are. let same = same_sums page contents n spans images listed are in omega (arith, same, fits)
+  fit_there passive (Some k) fits = tt

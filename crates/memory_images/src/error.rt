@@ -9,7 +9,7 @@ use std::alloc::{AllocError, AllocFailed};
 /// Why data segments have no images.
 #[derive(Clone, Copy, Debug, PartialEq, Eq)]
 pub enum ImageError {
-    /// The images and the other bytes pass 4294967295 bytes together.
+    /// The images and the passive segments pass 4294967295 bytes together.
     TooLarge,
     /// Out of memory.
     OutOfMemory,

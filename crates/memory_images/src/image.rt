@@ -69,26 +69,26 @@ fn spans_of(
     Ok(spans)
 }
 
-/// The sum of all sizes and `beside`, at most `u64::MAX`.
-fn total(beside: u64, spans: &[Option<Span>]) -> u64
-    ensures { result ≡ min (beside + sum_by span_size spans.now) (2 ^ 64 - 1) }
+/// The sum of all sizes and `passive`, at most `u64::MAX`.
+fn total(passive: u64, spans: &[Option<Span>]) -> u64
+    ensures { result ≡ min (passive + sum_by span_size spans.now) (2 ^ 64 - 1) }
 {
-    let mut total = beside;
+    let mut total = passive;
     'sizes: for span in spans {
         total = total.saturating_add(size(*span));
     }
     total
 }
 
-/// The first memory with whose span the sizes and `beside` pass 4294967295.
-fn span_past(beside: u64, spans: &[Option<Span>]) -> Option<usize>
-    requires { beside < 2 ^ 32 }
+/// The first memory with whose span the sizes and `passive` pass 4294967295.
+fn span_past(passive: u64, spans: &[Option<Span>]) -> Option<usize>
+    requires { passive < 2 ^ 32 }
     ensures bound { IfSome result (λ m. m < length spans.now) }
-    ensures before { IfSome result (λ m. beside + sum_by span_size (take m spans.now) < 2 ^ 32) }
-    ensures with { IfSome result (λ m. 2 ^ 32 ≤ beside + sum_by span_size (take (m + 1) spans.now)) }
-    ensures none { IfNone result (beside + sum_by span_size spans.now < 2 ^ 32) }
+    ensures before { IfSome result (λ m. passive + sum_by span_size (take m spans.now) < 2 ^ 32) }
+    ensures with { IfSome result (λ m. 2 ^ 32 ≤ passive + sum_by span_size (take (m + 1) spans.now)) }
+    ensures none { IfNone result (passive + sum_by span_size spans.now < 2 ^ 32) }
 {
-    let mut total = beside;
+    let mut total = passive;
     'sizes: for m in 0..spans.len() {
         total = total.saturating_add(size(spans[m]));
         if total > u64::from(u32::MAX) {
@@ -116,48 +116,48 @@ fn make_all(
     Ok(images)
 }
 
-/// The image of each memory, unless the images and `beside` more bytes pass 4294967295 bytes
+/// The image of each memory, unless the images and `passive` bytes of passive segments pass 4294967295 bytes
 /// together.
 pub(crate) fn images_of(
     alloc: Global,
     memories: &[Vec<Laid<'_>>],
-    beside: u64,
+    passive: u64,
     page: u64,
 ) -> Result<Vec<Option<Image>>, ImageError>
     requires page { 0 < page }
     requires fits { All (λ laid. All (λ x. end_of x < 2 ^ 64) laid.items) memories.now }
     ensures images { IfOk result (λ v. AreListed (λ m. ImageOf page (contents_at memories.now m)) (length memories.now) (view_images v.items)) }
-    ensures fits { IfOk result (λ v. beside + sum_by length (image_bytes (view_images v.items)) < 2 ^ 32) }
+    ensures fits { IfOk result (λ v. passive + sum_by length (image_bytes (view_images v.items)) < 2 ^ 32) }
     ensures too_large { result ≡ Err ImageError.TooLarge → (images : List (Option MemoryImage))
         → AreListed (λ m. ImageOf page (contents_at memories.now m)) (length memories.now) images
-        → 2 ^ 32 ≤ beside + sum_by length (image_bytes images) }
+        → 2 ^ 32 ≤ passive + sum_by length (image_bytes images) }
 {
     let spans = spans_of(alloc, memories, page)?;
-    if total(beside, spans.as_slice()) > u64::from(u32::MAX) {
+    if total(passive, spans.as_slice()) > u64::from(u32::MAX) {
         return Err(ImageError::TooLarge);
     }
     let images = make_all(alloc, memories, spans.as_slice())?;
     Ok(images)
 }
 
-/// The first memory with whose image the images and `beside` more bytes pass 4294967295 bytes
+/// The first memory with whose image the images and `passive` bytes of passive segments pass 4294967295 bytes
 /// together. No image is made.
 pub(crate) fn image_past(
     alloc: Global,
     memories: &[Vec<Laid<'_>>],
-    beside: u64,
+    passive: u64,
     page: u64,
 ) -> Result<Option<usize>, OutOfMemory>
     requires page { 0 < page }
     requires fits { All (λ laid. All (λ x. end_of x < 2 ^ 64) laid.items) memories.now }
-    requires beside { beside < 2 ^ 32 }
+    requires passive { passive < 2 ^ 32 }
     ensures bound { IfOk result (λ o. IfSome o (λ m. m < length memories.now)) }
     ensures past { IfOk result (λ o. IfSome o (λ m. (images : List (Option MemoryImage))
-        → AreListed (λ m. ImageOf page (contents_at memories.now m)) (length memories.now) images → PassesAt images beside m)) }
+        → AreListed (λ m. ImageOf page (contents_at memories.now m)) (length memories.now) images → PassesAt images passive m)) }
     ensures none { IfOk result (λ o. IfNone o ((images : List (Option MemoryImage))
         → AreListed (λ m. ImageOf page (contents_at memories.now m)) (length memories.now) images
-        → beside + sum_by length (image_bytes images) < 2 ^ 32)) }
+        → passive + sum_by length (image_bytes images) < 2 ^ 32)) }
 {
     let spans = spans_of(alloc, memories, page)?;
-    Ok(span_past(beside, spans.as_slice()))
+    Ok(span_past(passive, spans.as_slice()))
 }

@@ -17,19 +17,20 @@ use wasm_module::MemoryInitializer;
 use wasm_types::Memory;
 
 /// The images of all memories, imported ones first, where all active segments become images, and
-/// `None` where they do not. `beside` is the number of other bytes that count toward the size.
-/// Where images are off nothing is allocated.
+/// `None` where they do not. `passive` is the number of bytes of passive segments: they are in the
+/// runtime data too. Where images are off nothing is allocated.
 ///
 /// # Errors
-/// `TooLarge` where the images and the other bytes pass 4294967295 bytes together, before an image
-/// is made.
+/// - `TooLarge` where the images and the passive segments pass 4294967295 bytes together, before an
+///   image is made.
+/// - `OutOfMemory` where an allocation fails.
 pub fn plan_images(
     alloc: Global,
     settings: ImageSettings,
     memories: &[Memory],
     imported: usize,
     segments: &[MemoryInitializer<'_>],
-    beside: u64,
+    passive: u64,
 ) -> Result<Option<Vec<Option<Image>>>, ImageError>
     requires page_sizes { All (λ m. (m.page_size_log2 ≡ 0) ⊎ (m.page_size_log2 ≡ 16)) memories.now }
     requires page_size { IsPowerOfTwo settings.page_size }
@@ -40,11 +41,11 @@ pub fn plan_images(
     ensures holds { IfOk result (λ o. IfSome o (λ _. IsStatic (options_of settings) imported (map image_memory (drop imported memories.now)) (map active_segment_of segments.now))) }
     ensures images { IfOk result (λ o. IfSome o (λ images.
         AreImages settings.page_size (length memories.now) (map active_segment_of segments.now) (view_images images.items))) }
-    // Too large exactly where the images and the other bytes pass 4294967295 bytes.
-    ensures fits { IfOk result (λ o. IfSome o (λ images. beside + sum_by length (image_bytes (view_images images.items)) < 2 ^ 32)) }
+    // Too large exactly where the images and the passive segments pass 4294967295 bytes.
+    ensures fits { IfOk result (λ o. IfSome o (λ images. passive + sum_by length (image_bytes (view_images images.items)) < 2 ^ 32)) }
     ensures too_large { result ≡ Err ImageError.TooLarge → (images : List (Option MemoryImage))
         → AreImages settings.page_size (length memories.now) (map active_segment_of segments.now) images
-        → 2 ^ 32 ≤ beside + sum_by length (image_bytes images) }
+        → 2 ^ 32 ≤ passive + sum_by length (image_bytes images) }
     ensures too_large_holds { result ≡ Err ImageError.TooLarge
         → IsStatic (options_of settings) imported (map image_memory (drop imported memories.now)) (map active_segment_of segments.now) }
 {
@@ -54,42 +55,45 @@ pub fn plan_images(
     match static_layout(alloc, settings, imported, &memories[imported..], segments)? {
         None => Ok(None),
         Some(all) => {
-            let images = images_of(alloc, all.as_slice(), beside, settings.page_size)?;
+            let images = images_of(alloc, all.as_slice(), passive, settings.page_size)?;
             Ok(Some(images))
         }
     }
 }
 
-/// The first memory with whose image the images and `beside` other bytes pass 4294967295 bytes
-/// together. `None` where they do not, and where not all active segments become images. No image
-/// is made, and where images are off nothing is allocated.
+/// The first memory with whose image the images and the passive segments, of `passive` bytes, pass
+/// 4294967295 bytes together. `None` where they do not, and where not all active segments become
+/// images. No image is made, and where images are off nothing is allocated.
+///
+/// # Errors
+/// `OutOfMemory` where an allocation fails.
 pub fn too_large_at(
     alloc: Global,
     settings: ImageSettings,
     memories: &[Memory],
     imported: usize,
     segments: &[MemoryInitializer<'_>],
-    beside: u64,
+    passive: u64,
 ) -> Result<Option<usize>, OutOfMemory>
     requires page_sizes { All (λ m. (m.page_size_log2 ≡ 0) ⊎ (m.page_size_log2 ≡ 16)) memories.now }
     requires page_size { IsPowerOfTwo settings.page_size }
     requires imports { imported ≤ length memories.now }
     requires few { length memories.now < 2 ^ 32 }
-    requires beside { beside < 2 ^ 32 }
+    requires passive { passive < 2 ^ 32 }
     ensures off { settings.enabled ≡ false → result ≡ Ok None }
     ensures bound { IfOk result (λ o. IfSome o (λ memory. memory < length memories.now)) }
     ensures past { IfOk result (λ o. IfSome o (λ memory.
-        ImagesPassAt (options_of settings) imported (map image_memory (drop imported memories.now)) (map active_segment_of segments.now) beside memory)) }
+        ImagesPassAt (options_of settings) imported (map image_memory (drop imported memories.now)) (map active_segment_of segments.now) passive memory)) }
     ensures none { IfOk result (λ o. IfNone o ((images : List (Option MemoryImage))
         → IsStatic (options_of settings) imported (map image_memory (drop imported memories.now)) (map active_segment_of segments.now)
         → AreImages settings.page_size (length memories.now) (map active_segment_of segments.now) images
-        → beside + sum_by length (image_bytes images) < 2 ^ 32)) }
+        → passive + sum_by length (image_bytes images) < 2 ^ 32)) }
 {
     if !settings.enabled {
         return Ok(None);
     }
     match static_layout(alloc, settings, imported, &memories[imported..], segments)? {
         None => Ok(None),
-        Some(all) => image_past(alloc, all.as_slice(), beside, settings.page_size),
+        Some(all) => image_past(alloc, all.as_slice(), passive, settings.page_size),
     }
 }

@@ -40,10 +40,10 @@ fn second_image_passes_the_limit(rt: HostRuntime) -> Result<(), Fail> {
         byte_in(alloc, MemoryIndex::new(0))?,
         byte_in(alloc, MemoryIndex::new(1))?,
     ];
-    let beside = 4_294_967_296 - 8192;
-    let past = too_large_at(alloc, PAGED, &memories, 0, &segments, beside)?;
+    let passive = 4_294_967_296 - 8192;
+    let past = too_large_at(alloc, PAGED, &memories, 0, &segments, passive)?;
     assert!(rt; past == Some(1));
-    let fits = too_large_at(alloc, PAGED, &memories, 0, &segments, beside - 1)?;
+    let fits = too_large_at(alloc, PAGED, &memories, 0, &segments, passive - 1)?;
     assert!(rt; fits == None);
     Ok(())
 }
