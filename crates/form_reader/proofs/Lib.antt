@@ -9,6 +9,7 @@ pub mod NameLaws
 pub mod OneConstant
 pub mod OperatorList
 pub mod Outcomes
+pub mod Passed
 pub mod SectionLaws
 pub mod SectionList
 pub mod ShortNumbers

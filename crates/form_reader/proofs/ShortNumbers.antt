@@ -1,5 +1,5 @@
 -- Numbers of one byte.
-use Rattle.std.proofs.Common.{◌≡◌, ℕ, suc, ◌+◌, ◌*◌, ◌%◌, ◌^◌, ◌<◌, List, Some, Ok, refl, arith, leb, false}
+use Rattle.std.proofs.Common.{◌≡◌, ℕ, suc, ◌+◌, ◌*◌, ◌%◌, ◌^◌, ◌<◌, List, Some, Ok, refl, ◌∙◌, arith, leb, false}
 use Rattle.std.specs.Prelude.{pos}
 use Rattle.std.proofs.lemmas.Bool.{lt-ltb, lt-leb}
 use Rattle.form_reader.specs.Reading.{uncons}
@@ -20,6 +20,9 @@ unfolding unsigned_at
 short_u32 b rest bytes e h =
     let fits : b < 2 ^ 32 = omega arith in
     rw (short_found 4 b rest bytes e h, lt-ltb b (2 ^ 32) fits) refl
+
+pub zero_u32 : (b : ℕ) (rest bytes : List ℕ) → Some (b, rest) ≡ uncons bytes → b ≡ 0 → unsigned_at 32 bytes ≡ Ok (0, rest)
+zero_u32 b rest bytes e is = short_u32 b rest bytes e (omega (arith, is)) ∙ rw is refl
 
 pub short_u64 : (b : ℕ) (rest bytes : List ℕ) → Some (b, rest) ≡ uncons bytes → b < 128 → unsigned_at 64 bytes ≡ Ok (b, rest)
 unfolding unsigned_at

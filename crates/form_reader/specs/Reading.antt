@@ -78,6 +78,10 @@ abbrev pub ◌>>=◌ : {A B : Type 0} → Reader A → (A → Reader B) → Read
 abbrev pub fill_after : {A B : Type 0} → Reader A → (A → Filler B) → Filler B
 fill_after first second bytes = and_then (first bytes) (λ x. second x.0 x.1)
 
+-- the bytes after the value at the front
+unfoldable pub rest_at : {A : Type 0} → Reader A → Filler (List ℕ)
+rest_at read bytes = and_then (read bytes) (λ x. Ok x.1)
+
 -- a value with the number of its bytes
 abbrev pub measured_at : {A : Type 0} → Reader A → Reader (A × ℕ)
 measured_at p bytes = and_then (p bytes) (λ x. Ok ((x.0, length bytes - length x.1), x.1))

@@ -10,6 +10,8 @@ use crate::cursor::Cursor;
 use crate::error::ReadError;
 use crate::input::InputEntries;
 use crate::input_vectors::{InputEntry, InputVector};
+use crate::offsets::flagged_constant;
+use crate::type_indices::DefinedFunction;
 use crate::vectors::Index;
 use form_data::{ConstExpr, Element, ElementItems, ElementKind, Payload};
 use std::alloc::Global;
@@ -68,6 +70,23 @@ impl<'d> InputEntry<'d> for Element {
     ) -> Result<(), ReadError> {
         let flag = cursor.u32()?;
         cursor.flagged_element(alloc, flag, element)
+    }
+
+    #[tactic(auto, unfolding(crate::specs::Reading::rest_at, crate::specs::SectionRows::element_segment, crate::specs::SectionRows::flagged_element, crate::specs::SectionRows::active_in, crate::specs::SectionRows::functions_as))]
+    fn pass(
+        element: &mut Element,
+        alloc: Global,
+        cursor: &mut Cursor<'d>,
+    ) -> Result<(), ReadError> {
+        match flagged_constant(cursor.rest) {
+            Some((_, rest)) => {
+                cursor.rest = rest;
+                // An index of a function has the form of an index of its type.
+                cursor.counted_entries::<DefinedFunction>(alloc)?;
+                Ok(())
+            }
+            None => Self::read_into(element, alloc, cursor),
+        }
     }
 }
 

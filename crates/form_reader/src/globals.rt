@@ -63,4 +63,13 @@ impl<'d> InputEntry<'d> for GlobalDef {
         global.ty = cursor.global_type()?;
         cursor.expression_into(&mut global.init.ops)
     }
+
+    #[tactic(auto, unfolding(crate::specs::Reading::rest_at))]
+    fn pass(
+        global: &mut GlobalDef,
+        alloc: Global,
+        cursor: &mut Cursor<'d>,
+    ) -> Result<(), ReadError> {
+        Self::read_into(global, alloc, cursor)
+    }
 }

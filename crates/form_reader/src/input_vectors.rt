@@ -3,7 +3,7 @@
 ghost use Rattle.std.specs.Prelude.{◌≡◌, ◌++◌, ℕ, List, [], map, length, false, IfOk, OnOk};
 ghost use Rattle.wasm_spec.specs.Module as plain;
 ghost use Rattle.form_data.specs.Views.{payload_of};
-ghost use Rattle.form_reader.specs.Reading.{Reader, Reads, whole};
+ghost use Rattle.form_reader.specs.Reading.{Reader, Gives, Reads, rest_at, whole};
 ghost use Rattle.form_reader.specs.ReadingNumbers.{vector_at, sized_at};
 ghost use Rattle.form_reader.specs.Input.{vector_in, input_payload_of, Takes};
 
@@ -50,6 +50,14 @@ pub trait InputEntry<'d> {
         cursor: &mut Cursor<'d>,
     ) -> Result<(), ReadError>
         ensures { Reads form (λ u. view entry.new) cursor.old.rest.now cursor.new.rest.now result };
+
+    /// Moves past the next entry. It may overwrite `entry`, which is no longer needed.
+    fn pass(
+        entry: &mut Self::Value,
+        alloc: Global,
+        cursor: &mut Cursor<'d>,
+    ) -> Result<(), ReadError>
+        ensures { Gives (λ u. cursor.new.rest.now) result (rest_at form cursor.old.rest.now) };
 }
 
 /// The entries of a section, which stay in the input. They were read once, and are read again where
@@ -62,8 +70,9 @@ pub struct InputVector<'d> {
 
 impl<'d> Cursor<'d> {
     /// A count, and that many entries, which stay where they are.
+    #[inline(always)]
     #[tactic(auto, unfolding(crate::specs::ReadingNumbers::vector_at))]
-    fn counted_entries<E: InputEntry<'d>>(
+    pub(crate) fn counted_entries<E: InputEntry<'d>>(
         &mut self,
         alloc: Global,
     ) -> Result<InputVector<'d>, ReadError>
@@ -73,7 +82,7 @@ impl<'d> Cursor<'d> {
         let bytes = self.rest;
         let mut entry = E::none(alloc);
         'entries: for _ in 0..count {
-            E::read_into(&mut entry, alloc, self)?;
+            E::pass(&mut entry, alloc, self)?;
         }
         Ok(InputVector { count, bytes })
     }

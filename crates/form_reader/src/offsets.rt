@@ -1,9 +1,9 @@
 //! Offsets of segments (core specification, 5.4, expressions): most are one constant.
 
-ghost use Rattle.std.specs.Prelude.{◌≡◌, [], ◌∷◌, Ok, IfSome};
+ghost use Rattle.std.specs.Prelude.{◌≡◌, ℕ, List, [], ◌∷◌, Ok, IfSome};
 ghost use Rattle.wasm_spec.specs.declared.operators.Operator.TheVariants.{I32Const};
 ghost use Rattle.form_reader.specs.Reading.{Reads};
-ghost use Rattle.form_reader.specs.ReadingNumbers.{signed_at};
+ghost use Rattle.form_reader.specs.ReadingNumbers.{unsigned_at, signed_at};
 ghost use Rattle.form_reader.specs.ExpressionLaws.{expression_at};
 
 use crate::cursor::Cursor;
@@ -35,6 +35,18 @@ fn one_constant(bytes: &[u8]) -> Option<(i32, &[u8])>
 {
     match first_byte(bytes) {
         Some((byte, rest)) if byte == I32_CONST => ended_s32(rest),
+        _ => None,
+    }
+}
+
+/// The number of an `i32.const` after flag 0, if it is a whole offset, and the bytes after it.
+#[inline(always)]
+pub fn flagged_constant(bytes: &[u8]) -> Option<(i32, &[u8])>
+    ensures { IfSome result (λ x. (after_flag : List ℕ) × (unsigned_at 32 bytes.now ≡ Ok (0, after_flag))
+        × (expression_at after_flag ≡ Ok (I32Const x.0 ∷ [], x.1.now))) }
+{
+    match first_byte(bytes) {
+        Some((flag, rest)) if flag == 0 => one_constant(rest),
         _ => None,
     }
 }

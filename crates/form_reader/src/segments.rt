@@ -10,6 +10,7 @@ use crate::cursor::Cursor;
 use crate::error::ReadError;
 use crate::input::InputEntries;
 use crate::input_vectors::{InputEntry, InputVector};
+use crate::offsets::flagged_constant;
 use form_data::{DataKind, DataSegment, Payload};
 use std::alloc::Global;
 
@@ -56,6 +57,22 @@ impl<'d> InputEntry<'d> for DataSegment<'d> {
     ) -> Result<(), ReadError> {
         let flag = cursor.u32()?;
         cursor.flagged_segment(alloc, flag, segment)
+    }
+
+    #[tactic(auto, unfolding(crate::specs::Reading::rest_at, crate::specs::SectionRows::data_segment, crate::specs::SectionRows::flagged_segment, crate::specs::SectionRows::active_segment))]
+    fn pass(
+        segment: &mut DataSegment<'d>,
+        alloc: Global,
+        cursor: &mut Cursor<'d>,
+    ) -> Result<(), ReadError> {
+        match flagged_constant(cursor.rest) {
+            Some((_, rest)) => {
+                cursor.rest = rest;
+                cursor.counted_bytes()?;
+                Ok(())
+            }
+            None => Self::read_into(segment, alloc, cursor),
+        }
     }
 }
 

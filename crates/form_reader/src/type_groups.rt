@@ -102,6 +102,11 @@ impl<'d> InputEntry<'d> for RecGroup {
         group.types.push(sub_type)?;
         Ok(())
     }
+
+    #[tactic(auto, unfolding(crate::specs::Reading::rest_at))]
+    fn pass(group: &mut RecGroup, alloc: Global, cursor: &mut Cursor<'d>) -> Result<(), ReadError> {
+        Self::read_into(group, alloc, cursor)
+    }
 }
 
 impl<'d> Cursor<'d> {

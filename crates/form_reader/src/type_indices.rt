@@ -57,6 +57,12 @@ impl<'d> InputEntry<'d> for DefinedFunction {
         *ty = cursor.u32()?;
         Ok(())
     }
+
+    #[inline]
+    #[tactic(auto, unfolding(crate::specs::Reading::rest_at))]
+    fn pass(ty: &mut u32, alloc: Global, cursor: &mut Cursor<'d>) -> Result<(), ReadError> {
+        Self::read_into(ty, alloc, cursor)
+    }
 }
 
 impl<'d> InputEntry<'d> for DefinedTag {
@@ -96,5 +102,11 @@ impl<'d> InputEntry<'d> for DefinedTag {
     fn read_into(ty: &mut u32, _alloc: Global, cursor: &mut Cursor<'d>) -> Result<(), ReadError> {
         *ty = cursor.tag_type()?;
         Ok(())
+    }
+
+    #[inline]
+    #[tactic(auto, unfolding(crate::specs::Reading::rest_at))]
+    fn pass(ty: &mut u32, alloc: Global, cursor: &mut Cursor<'d>) -> Result<(), ReadError> {
+        Self::read_into(ty, alloc, cursor)
     }
 }
