@@ -1176,6 +1176,22 @@ uint32_t bobbinazure_locate_excess(const uint8_t *bytes, size_t len, const bobbi
  *   NO_MEMORY      it is unchanged */
 uint32_t bobbinazure_sections(const uint8_t *bytes, size_t len, bobbinazure_section_list *list);
 
+/* Whether a memory of a plan may be moved as it grows, where `reservation` bytes are reserved for it
+ * at first: 1, or 0. It may not where `may_move` is 0, threads share it, it cannot grow, or all that
+ * it can grow to is reserved. */
+uint32_t bobbinazure_memory_may_move(const bobbinazure_memory *memory, uint64_t reservation, uint32_t may_move);
+
+/* Whether an address of 32 bits cannot leave what is reserved for a memory and its guard pages, on a
+ * host that turns their faults into traps: 1, or 0. Behind the `reservation` bytes of the memory are
+ * `guard_size` bytes of such pages. The host's page size is an exponent of 2. The static offset of
+ * an access, and its width, must fit behind the address too: the engine checks it. */
+uint32_t bobbinazure_can_elide_bounds_check(const bobbinazure_memory *memory, uint64_t reservation,
+                                            uint64_t guard_size, uint32_t host_page_size_log2);
+
+/* Whether a memory may grow to a size in bytes: 1, or 0. One of pages of one byte and addresses of 32
+ * bits may not reach 4294967295 bytes: `memory.grow` answers that number where it fails. */
+uint32_t bobbinazure_memory_allows_growth_to(const bobbinazure_memory *memory, uint64_t size);
+
 /* The version of the library: 10000 * major + 100 * minor + patch. */
 uint32_t bobbinazure_version(void);
 
@@ -1223,23 +1239,6 @@ static inline uint32_t bobbinazure_passive_data_of(const bobbinazure_plan *plan,
     }
     if (low == plan->passive.len || plan->passive.at[low].segment != segment) return BOBBINAZURE_NONE;
     return plan->passive.at[low].runtime;
-}
-
-/* Whether a memory may be moved as it grows, where `reservation` bytes are reserved for it at
- * first. It may not where `may_move` is 0, threads share it, it cannot grow, or all that it can
- * grow to is reserved. */
-static inline int bobbinazure_memory_may_move(const bobbinazure_memory *memory, uint64_t reservation, int may_move) {
-    return may_move && !memory->shared && memory->minimum != memory->maximum && memory->maximum_bytes > reservation;
-}
-
-/* Whether an address of 32 bits cannot leave what is reserved for a memory and its guard pages, on a
- * host that turns their faults into traps. The static offset of an access, and its width, must fit
- * behind that address too: the engine checks it. Behind the `reservation` bytes that are reserved for the memory are `guard_size`
- * bytes of such pages. The host's page size is given as an exponent of 2. */
-static inline int bobbinazure_can_elide_bounds_check(const bobbinazure_memory *memory, uint64_t reservation,
-                                                     uint64_t guard_size, uint8_t host_page_size_log2) {
-    uint64_t guarded = guard_size > UINT64_MAX - reservation ? UINT64_MAX : reservation + guard_size;
-    return memory->page_size_log2 >= host_page_size_log2 && !memory->wide && guarded >= (uint64_t)1 << 32;
 }
 
 /* The options of the program without a word of the command line. */

@@ -1,6 +1,6 @@
 -- Why a program is refused, and why not.
 use Rattle.std.proofs.Common.{◌≡◌, ◌<◌, ◌≤◌, ◌+◌, ℕ, zero, suc, List, length, take, Ok, Err, inl, inr, refl, sym, subst, arith}
-use Rattle.std.specs.Prelude.{◌⊎◌}
+use Rattle.std.specs.Prelude.{◌⊎◌, ◌↔◌, ⊤}
 use Rattle.std.proofs.lemmas.Bool.{cases_lt}
 use Rattle.std.proofs.lemmas.List.{take_all}
 use Rattle.std.proofs.lemmas.Result.{IfErr-at_err}
@@ -35,12 +35,17 @@ module _ (program : List ProgramModule) (none : (k : ℕ) → IsCrowded program 
 
 -- ---- a fault
 
+is-duplicate : ProgramError → Type 0
+is-duplicate (error.Duplicate k) = ⊤
+is-duplicate _ = ⊥
+
 pub fault-of : (program : List ProgramModule) (e : ProgramError) (r : ProgramRecord) → ((k : ℕ) → e ≡ error.Duplicate k → IsDuplicate program k)
-    → ((k : ℕ) → e ≡ error.TooManyTypes k → IsCrowded program k) → TellsError e r → TellsFault program r
+    → ((k : ℕ) → e ≡ error.TooManyTypes k ↔ IsCrowded program k) → TellsError e r → TellsFault program r
 fault-of program (error.Duplicate k) r duplicate crowded told =
     let is = sym told.cause_is.1 in
-    inl (subst (λ (j : ℕ). TellsCause 2 j r) is told, subst (IsDuplicate program) is (duplicate k refl))
+    let few = fits program (λ i passes. subst is-duplicate ((crowded i).1 passes) tt) in
+    inl (subst (λ (j : ℕ). TellsCause 2 j r) is told, few, subst (IsDuplicate program) is (duplicate k refl))
 fault-of program (error.TooManyTypes k) r duplicate crowded told =
     let is = sym told.cause_is.1 in
-    inr (subst (λ (j : ℕ). TellsCause 3 j r) is told, subst (IsCrowded program) is (crowded k refl))
+    inr (subst (λ (j : ℕ). TellsCause 3 j r) is told, subst (IsCrowded program) is ((crowded k).0 refl))
 fault-of program error.OutOfMemory r duplicate crowded told = absurd told

@@ -1,6 +1,7 @@
 pub mod Calls
 pub mod Excess
 pub mod Links
+pub mod MemoryCalls
 pub mod Members
 pub mod Places
 pub mod Programs

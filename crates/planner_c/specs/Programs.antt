@@ -145,9 +145,12 @@ pub record RefusesModule (o : PlanOptions) (modules : List NamedModule) (r : Pro
   pub before : All (λ (m : NamedModule). HasPlan o m.bytes.now (λ plan. ⊤)) (take r.refused modules)
   pub told : HasRefusal o refused.bytes.now (λ e. TellsModule r.refused e r)
 
--- an export repeats two names, or the types pass the capacity of a registry; at the first such module
+-- the types fit into a registry, and an export repeats two names; or the types do not fit. At the
+-- first such module
 abbrev pub TellsFault : List ProgramModule → ProgramRecord → Type 0
-TellsFault program r = (TellsCause 2 r.refused r × IsDuplicate program r.refused) ⊎ (TellsCause 3 r.refused r × IsCrowded program r.refused)
+TellsFault program r =
+    (TellsCause 2 r.refused r × (count_types program ≤ capacity) × IsDuplicate program r.refused)
+    ⊎ (TellsCause 3 r.refused r × IsCrowded program r.refused)
 
 abbrev pub RefusesProgram : PlanOptions → List NamedModule → ProgramRecord → Type 0
 RefusesProgram o modules r = RefusesModule o modules r ⊎ HasProgram o modules (λ program. TellsFault program r)

@@ -5,6 +5,12 @@ use crate::rows::{self, Global, Memory, Table, Tag};
 use crate::types::{RefType, StorageType};
 use std::fmt;
 
+unsafe extern "C" {
+    safe fn bobbinazure_memory_may_move(memory: &Memory, reservation: u64, may_move: u32) -> u32;
+    safe fn bobbinazure_can_elide_bounds_check(memory: &Memory, reservation: u64, guard_size: u64, host_page_size_log2: u32) -> u32;
+    safe fn bobbinazure_memory_allows_growth_to(memory: &Memory, size: u64) -> u32;
+}
+
 /// An entity, by its kind and its index.
 ///
 /// ```
@@ -184,17 +190,17 @@ impl Memory {
     ///
     /// ```
     /// # use bobbinazure::Memory;
-    /// let memory = Memory { minimum: 1, maximum: 4, page_size_log2: 16, ..Default::default() };
+    /// let memory = Memory { minimum: 1, maximum: 4, maximum_bytes: 4 << 16, page_size_log2: 16, ..Default::default() };
     /// assert!(memory.memory_may_move(65536, true) && !memory.memory_may_move(4 << 16, true));
     /// ```
     pub fn memory_may_move(&self, reservation: u64, may_move: bool) -> bool {
-        may_move && !self.shared && self.max() != Some(self.minimum) && self.maximum_byte_size().unwrap_or(u64::MAX) > reservation
+        bobbinazure_memory_may_move(self, reservation, u32::from(may_move)) != 0
     }
 
     /// Whether an address of 32 bits cannot leave what is reserved and its guard pages, on a host
-    /// that turns their faults into traps. The static offset of an access, and its width, must fit
-    /// behind that address too: the engine checks it. Behind the `reservation` bytes that are reserved for the memory are `guard_size` bytes
-    /// of such pages. The host's page size is given as an exponent of 2.
+    /// that turns their faults into traps. Behind the `reservation` bytes of the memory are
+    /// `guard_size` bytes of such pages. The host's page size is an exponent of 2. The static offset
+    /// of an access, and its width, must fit behind the address too: the engine checks it.
     ///
     /// ```
     /// # use bobbinazure::Memory;
@@ -202,7 +208,19 @@ impl Memory {
     /// assert!(memory.can_elide_bounds_check(1 << 32, 0, 12) && !memory.can_elide_bounds_check(1 << 31, 65536, 12));
     /// ```
     pub fn can_elide_bounds_check(&self, reservation: u64, guard_size: u64, host_page_size_log2: u8) -> bool {
-        self.page_size_log2 >= host_page_size_log2 && !self.wide && reservation.saturating_add(guard_size) >= 1 << 32
+        bobbinazure_can_elide_bounds_check(self, reservation, guard_size, u32::from(host_page_size_log2)) != 0
+    }
+
+    /// Whether the memory may grow to a size in bytes. One of pages of one byte and addresses of 32
+    /// bits may not reach 4294967295 bytes: `memory.grow` answers that number where it fails.
+    ///
+    /// ```
+    /// # use bobbinazure::Memory;
+    /// let memory = Memory { minimum: 1, maximum: u64::MAX, page_size_log2: 0, ..Default::default() };
+    /// assert!(memory.allow_growth_to(4294967294) && !memory.allow_growth_to(4294967295));
+    /// ```
+    pub fn allow_growth_to(&self, size: u64) -> bool {
+        bobbinazure_memory_allows_growth_to(self, size) != 0
     }
 }
 

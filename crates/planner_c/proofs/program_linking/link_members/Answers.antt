@@ -42,7 +42,11 @@ returns-in-Ok-clause-told c = λ success.
 pub returns-in-Err-clause-fault : goal.returns-in-Err-clause-fault
 returns-in-Err-clause-fault c = λ is.
     fault-of c.args.program.now c.in-Err.refusal c.tell_fault.new.out (λ k e. c.in-Err.ensures.duplicate k (ap Err e))
-    (λ k e. (c.in-Err.ensures.crowded k).0 (ap Err e)) (c.tell_fault.ensures.told is)
+    (λ k. (
+      (λ e. (c.in-Err.ensures.crowded k).0 (ap Err e)),
+      (λ passes. IfErr-at_err (λ (y : ProgramError). c.in-Err.refusal ≡ y) ((c.in-Err.ensures.crowded k).1 passes) refl),
+    ))
+    (c.tell_fault.ensures.told is)
 
 pub returns-in-Err-clause-complete : goal.returns-in-Err-clause-complete
 returns-in-Err-clause-complete c = λ right is.
