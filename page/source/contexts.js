@@ -12,7 +12,7 @@ function contextCard(plan) {
   const part = region => {
     const words = `${region.name}: ${count(region.size, "byte")} from ${spoken(region.begin)} on`;
     const style = `flex: ${region.size} 1 0; background: ${colourOf(region)}`;
-    return button(region.name, () => show(region), { style, title: words, "aria-label": words });
+    return barButton(region.name, () => show(region), { style, title: words, "aria-label": words });
   };
   const row = region => {
     const key = el("span", { class: "key", style: `background: ${region.size ? colourOf(region) : "transparent"}` });
@@ -35,7 +35,7 @@ function typesCard(plan) {
     it.isFirst ? spoken(it.group) : "",
     spoken(it.index),
     el("code", {}, it.words),
-    it.declaredCount ? declaredWords(it) : el("span", { class: "soft" }, "added by the planner"),
+    it.declaredCount ? declaredWords(it) : el("span", { class: "soft unbroken" }, "added by the planner"),
     spoken(it.functions),
     originButton(plan, "type", it.index),
   ];

@@ -103,7 +103,7 @@ function sectionsBar(plan) {
     sections.sort((one, other) => one.index - other.index);
     bar.replaceChildren(...sections.map(it => {
       const words = `${sectionWords(it)}: ${count(it.size, "byte")}, ${shareWords(it.size, size)}`, style = `flex: ${it.size} 1 0; background: ${COLOURS[it.id % COLOURS.length]}`;
-      return button(it.title ?? it.name, () => showOrigin(plan, "anySection", it.index), { style, title: words, "aria-label": words });
+      return barButton(it.title ?? it.name, () => showOrigin(plan, "anySection", it.index), { style, title: words, "aria-label": words });
     }));
   });
   return el("div", {}, bar, el("div", { class: "ends" }, el("span", {}, "0"), el("span", {}, spoken(size))));

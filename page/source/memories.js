@@ -36,7 +36,7 @@ function memoriesCard(plan) {
   const draw = rows => el("div", {}, ...rows.map(row => memoryPart(plan, row)));
   return card(
     `Memories: ${spoken(summary.entities.memories)}${summary.hasImages ? ", with images" : ""}`,
-    el("p", {}, how, " ", el("span", { class: "soft small" }, ...legend)),
+    el("p", {}, how, " ", el("span", { class: "soft small unbroken" }, ...legend)),
     whosePart("The planner says all of this; this page’s script draws it, and counts the bytes that are not zero."),
     listed(plan, { label: "memories", unit: "memory", count: summary.entities.memories, size: 10, question: "memories", draw, isBoxed: false }),
     passivePart(plan),

@@ -78,7 +78,7 @@ function readAddress() {
   takeOptionWords(known);
   showUnknown(options.filter(word => !known.includes(word)));
   checkOptions();
-  byId("command").textContent = commandWords();
+  byId("command").replaceChildren(...unbroken(commandWords()));
   for (const side of ["one", "other"]) {
     const example = words.get(side);
     if (EXAMPLES[example] && sides[side]?.example !== example) takeExample(side, example);
@@ -89,12 +89,12 @@ function readAddress() {
   Object.assign(matching, { importer: words.get("importer") === "one" ? "one" : "other", name: words.get("as"), isStopped: false });
 }
 
-const commandWords = () => ["./translate FILE.wasm", ...optionWords()].join(" ");
+const commandWords = () => ["./translate FILE.wasm", ...optionWords()];
 
 function optionsChanged() {
   showUnknown([]);
   checkOptions();
-  byId("command").textContent = commandWords();
+  byId("command").replaceChildren(...unbroken(commandWords()));
   keepAddress();
   showChosen();
   for (const side of ["one", "other"]) if (sides[side]) planSide(side);
@@ -184,7 +184,8 @@ function foldControls(side) {
 
 function showChosen() {
   const names = [sides.one, sides.other].filter(Boolean).map(side => side.name);
-  byId("chosen").textContent = names.length ? `${names.join(" and ")}, ${optionWords().join(" ") || "no option"}` : "";
+  const options = optionWords();
+  byId("chosen").replaceChildren(...(names.length ? [`${names.join(" and ")}, `, ...unbroken(options.length ? options : ["no option"])] : []));
 }
 
 function setPlan(side, summary) {

@@ -25,6 +25,16 @@ function button(words, onclick, more = {}) {
   return el("button", { type: "button", onclick, ...more }, words);
 }
 
+// Words with spaces between, of which each stays in one line.
+function unbroken(words) {
+  return words.flatMap((word, i) => [...(i ? [" "] : []), el("span", { class: "unbroken" }, word)]);
+}
+
+// A button of a bar, which shows its words where they fit.
+function barButton(words, onclick, more) {
+  return button(el("span", {}, words), onclick, more);
+}
+
 function card(title, ...inside) {
   // What a title says after a colon is no part of its name.
   const id = `title-${title.split(":")[0].toLowerCase().replace(/\W+/g, "-")}`;

@@ -128,7 +128,7 @@ class PageChecks extends Opened {
   // Files that are no core modules: each has a sentence on what it is.
   async others() {
     const files = { "text.wat": Buffer.from("(module)"), "empty.wasm": Buffer.alloc(0), "component.wasm": Buffer.from("0061736d0d000100", "hex"), "left.wasm": Buffer.from("0061736d01000000010200 00".replace(" ", ""), "hex") };
-    const wanted = { "text.wat": "looks like text", "empty.wasm": "the file is empty", "component.wasm": "the file is a component", "left.wasm": "type section: bytes follow the last entry of the section" };
+    const wanted = { "text.wat": "looks like text", "empty.wasm": "the file is empty", "component.wasm": "the file is a component", "left.wasm": "in the type section (1): bytes follow the last entry of the section" };
     for (const [name, bytes] of Object.entries(files)) {
       await this.give("one", name, bytes);
       const said = await this.said("#answer");
