@@ -9,6 +9,7 @@ pub mod NameLaws
 pub mod OneConstant
 pub mod OperatorList
 pub mod Outcomes
+pub mod SameItems
 pub mod SectionLaws
 pub mod SectionList
 pub mod ShortNumbers
