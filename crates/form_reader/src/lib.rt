@@ -44,6 +44,7 @@ mod tables;
 mod type_bytes;
 mod type_groups;
 mod type_indices;
+mod value_lists;
 mod value_types;
 mod vectors;
 

@@ -7,13 +7,14 @@ ghost use Rattle.wasm_spec.specs.TypeData as data_of;
 ghost use Rattle.form_data.specs.Views.{composite_of, sub_type_of, group_of};
 ghost use Rattle.form_reader.specs.Reading.{Reads, first_byte_at};
 ghost use Rattle.form_reader.specs.Rows.{first_byte};
-ghost use Rattle.form_reader.specs.TypeRows.{function_type, composite_after, supertype, with_supertype, sub_type_after, group};
+ghost use Rattle.form_reader.specs.ReadingNumbers.{vector_at};
+ghost use Rattle.form_reader.specs.TypeRows.{value_type, function_type, composite_after, supertype, with_supertype, sub_type_after, group};
 
 use crate::cursor::Cursor;
 use crate::error::ReadError;
 use crate::input::InputEntries;
 use crate::input_vectors::{InputEntry, InputVector};
-use crate::value_types::SHARED;
+use crate::value_types::{FIRST_NUMBER_TYPE, SHARED};
 use crate::vectors::Entry;
 use form_data::{CompositeInnerType, FuncType, Payload, RecGroup, SubType};
 use std::alloc::Global;
@@ -110,12 +111,24 @@ impl<'d> InputEntry<'d> for RecGroup {
 }
 
 impl<'d> Cursor<'d> {
+    /// The types of parameters. Number types are read in a run where the first type is one.
+    #[inline(always)]
+    fn params(&mut self, alloc: Global) -> Result<Vec<ValType>, ReadError>
+        ensures { Reads (vector_at value_type.read) (λ v. v.items) self.old.rest.now self.new.rest.now result }
+    {
+        let first = self.rest.get(1).copied().unwrap_or(0);
+        if first >= FIRST_NUMBER_TYPE {
+            return self.value_types(alloc);
+        }
+        self.vector::<ValType>(alloc)
+    }
+
     /// The types of parameters and of results.
     #[tactic(auto, unfolding(crate::specs::TypeRows::function_type))]
     fn function_type(&mut self, alloc: Global) -> Result<CompositeInnerType, ReadError>
         ensures { Reads function_type.read composite_of self.old.rest.now self.new.rest.now result }
     {
-        let params = self.vector::<ValType>(alloc)?;
+        let params = self.params(alloc)?;
         let results = self.vector::<ValType>(alloc)?;
         Ok(CompositeInnerType::Func(FuncType { params, results }))
     }
