@@ -28,9 +28,9 @@ pub trait TakeGroups {
 
 /// Drops the groups.
 #[derive(Drop)]
-pub struct Nobody;
+pub struct NoTaker;
 
-impl TakeGroups for Nobody {
+impl TakeGroups for NoTaker {
     ghost took = { λ nobody groups. Unit {0} };
 
     fn take_group(&mut self, _alloc: Global, _group: RecGroup) -> Result<(), AllocError> {

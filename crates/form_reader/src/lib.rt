@@ -52,7 +52,7 @@ pub use contents::{next_order, order_of};
 pub use cursor::Cursor;
 pub use customs::InputCustoms;
 pub use error::ReadError;
-pub use group_takers::{Nobody, TakeGroups};
+pub use group_takers::{NoTaker, TakeGroups};
 pub use input::{InputEntries, InputForm, InputPart, InputSection};
 pub use input_vectors::{InputEntry, InputVector};
 pub use laws::spelling_is_unique;

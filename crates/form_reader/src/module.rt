@@ -14,7 +14,7 @@ ghost use Rattle.form_reader.specs.Reading.{Gives};
 ghost use Rattle.form_reader.specs.ReadingSections.{is_component as spec_is_component, module_at};
 
 use crate::error::ReadError;
-use crate::group_takers::{Nobody, TakeGroups};
+use crate::group_takers::{NoTaker, TakeGroups};
 use crate::input::{InputForm, InputPart};
 use crate::sections::sections;
 use form_data::{Form, Payload};
@@ -127,7 +127,7 @@ pub fn read_module<'d>(alloc: Global, bytes: &'d [u8]) -> Result<Form<'d>, ReadE
     ensures malformed { result ≡ Err ReadError.Malformed → (m : Module) → ¬ Spells bytes.now m }
     ensures stops_nowhere { result ≡ Err ReadError.Malformed → (what : What) → ¬ Stops bytes.now what }
 {
-    let form = read_input(alloc, bytes, &mut Nobody)?;
+    let form = read_input(alloc, bytes, &mut NoTaker)?;
     let payloads = collected(alloc, form.parts)?;
     Ok(Form {
         wasm: bytes,

@@ -14,7 +14,7 @@ use Rattle.form_types.specs.declared.numbering.Numbering.{Numbering}
 use Rattle.form_types.specs.declared.canonical.CanonicalGroup.{CanonicalGroup}
 use Rattle.form_types.specs.contracts.canonical.CanonicalGroupPartialEq.TheImpl as group
 use Rattle.form_types.specs.Types.{NamedGroup, types_by_id}
-use Rattle.form_types.specs.Seen.{ids_of}
+use Rattle.form_types.specs.EarlierTypes.{ids_of}
 use Rattle.form_types.specs.Placed.{place_of, placed, id_at, named_index}
 use Rattle.form_types.specs.Keys.{group_key, key_of}
 use Rattle.form_types.specs.Finding.{first_of}

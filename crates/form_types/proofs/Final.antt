@@ -20,7 +20,7 @@ use Rattle.rule_spec.specs.TypeRules as rule
 use Rattle.form_data.specs.Views.{group_of}
 use Rattle.form_types.specs.declared.numbering.Numbering.{Numbering}
 use Rattle.form_types.specs.Types.{NamedGroup, TypesData, types_by_id, NamesFunction, CompositeContinues, ContinuesFunction, IsSound}
-use Rattle.form_types.specs.Seen.{ids_of}
+use Rattle.form_types.specs.EarlierTypes.{ids_of}
 use Rattle.form_types.specs.Placed.{id_at, named_index}
 use Rattle.form_types.specs.Numbered.{HasItsId, AreNumbered}
 use Rattle.form_types.specs.Taken.{places, Built}

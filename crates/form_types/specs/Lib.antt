@@ -1,5 +1,5 @@
 pub mod Ids
-pub mod Seen
+pub mod EarlierTypes
 pub mod Types
 pub mod Kept
 pub mod Placed

@@ -14,7 +14,7 @@ use Rattle.form_types.specs.Ids.{id_of}
 use Rattle.form_types.specs.Types.{NamedGroup, types_by_id, NameEarlier}
 use Rattle.form_types.specs.Numbered.{first_id}
 use Rattle.form_types.specs.Placed.{placed}
-use Rattle.form_types.specs.Seen.{ids_of}
+use Rattle.form_types.specs.EarlierTypes.{ids_of}
 use Rattle.form_types.specs.Keys.{GroupKey, group_key, key_of}
 use Rattle.form_types.specs.Finding.{first_of}
 use Rattle.form_types.specs.Distinct.{IsListed}

@@ -6,13 +6,13 @@ ghost use Rattle.std.specs.List.{range_with_len, fold};
 ghost use Rattle.form_reader.specs.TypeBytes.{type_bytes};
 ghost use Rattle.form_data.specs.Views.{sub_type_of};
 ghost use Rattle.form_types.specs.Types.{NamedGroup};
-ghost use Rattle.form_types.specs.Seen.{ids_of};
+ghost use Rattle.form_types.specs.EarlierTypes.{ids_of};
 ghost use Rattle.form_types.specs.Placed.{placed};
 ghost use Rattle.form_types.specs.Keys.{key_of, read_key, targets};
 ghost use Rattle.form_types.specs.Finding.{first_of, next_key};
 
 use crate::canonical::CanonicalGroup;
-use crate::seen::Seen;
+use crate::earlier_types::EarlierTypes;
 use entity_map::Seeded;
 use form_data::SubType;
 use form_reader::type_section_bytes;
@@ -49,15 +49,15 @@ pub fn name_key(key: &mut CanonicalGroup, ids: &[CoreTypeId])
     ensures count { length key.new.references.items ≡ length key.old.references.items }
 {
     let start = ids.len() as u32;
-    name_targets(&mut key.references, Seen { ids, start });
+    name_targets(&mut key.references, EarlierTypes { ids, start });
 }
 
 /// Each reference becomes what it names.
-fn name_targets(references: &mut Vec<UnpackedIndex>, seen: Seen<'_>)
-    ensures { references.new.items ≡ targets (ids_of seen.entry.ids.now) seen.entry.start references.old.items }
+fn name_targets(references: &mut Vec<UnpackedIndex>, earlier: EarlierTypes<'_>)
+    ensures { references.new.items ≡ targets (ids_of earlier.entry.ids.now) earlier.entry.start references.old.items }
 {
     for place in 0..references.len() {
-        references[place] = seen.target(references[place]);
+        references[place] = earlier.target(references[place]);
     }
 }
 

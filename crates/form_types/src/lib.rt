@@ -24,14 +24,14 @@ mod codes;
 mod continuations;
 mod copied;
 mod distinct;
+mod earlier_types;
 mod elements;
 mod finding;
-mod finishing;
+mod list_lengths;
 mod members;
 mod named;
 mod numbering;
-mod seen;
-mod short;
+mod type_list;
 mod types;
 mod validator;
 

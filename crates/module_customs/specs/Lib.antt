@@ -2,5 +2,5 @@ pub mod Kept
 pub mod Told
 pub mod Names
 pub mod Hints
-pub mod Debugged
+pub mod DebugSections
 pub mod Worked

@@ -4,7 +4,7 @@ ghost use Rattle.std.specs.Prelude.{◌≡◌};
 ghost use Rattle.std.specs.List.{list_any};
 ghost use Rattle.form_lists.specs.Source.{source_module};
 ghost use Rattle.form_lists.specs.Singles.{single_of};
-ghost use Rattle.module_customs.specs.Debugged.{is_debug_section};
+ghost use Rattle.module_customs.specs.DebugSections.{is_debug_section};
 
 use custom_sections::is_debug_name;
 use form_data::Payload;

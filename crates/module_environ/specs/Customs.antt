@@ -10,7 +10,7 @@ use Rattle.module_customs.specs.Kept.{kept_hint}
 use Rattle.custom_sections.specs.NameLists.{NameLists}
 use Rattle.module_customs.specs.Names.{module_names, KeepsNames}
 use Rattle.module_customs.specs.Hints.{HintLists, module_hints, branch_hint_of}
-use Rattle.module_customs.specs.Debugged.{is_debug_section}
+use Rattle.module_customs.specs.DebugSections.{is_debug_section}
 use Rattle.init_plan.specs.declared.translation.ModuleTranslation.{ModuleTranslation}
 use Rattle.init_plan.specs.Views.{hints_of}
 use Rattle.module_environ.specs.Entities.{text_at}

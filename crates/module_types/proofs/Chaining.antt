@@ -11,15 +11,15 @@ use Rattle.std.proofs.lemmas.List.{length-append, reverse-append, take_all, take
 use Rattle.wasm_types.specs.declared.func.WasmFuncType.{WasmFuncType}
 use Rattle.wasm_types.specs.contracts.equal.WasmFuncTypePartialEq.TheImpl as func
 use Rattle.module_types.proofs.Keys.{equal}
-use Rattle.module_types.specs.Met.{Met, known_in, entry_of, Leads, AreChained, met_of, mets, met_at, digest_of, newest_of, no_function, IsLinked, IsNoted}
+use Rattle.module_types.specs.MappedTypes.{MappedKey, known_in, entry_of, Leads, AreChained, mapped_key_of, mapped_keys, mapped_at, digest_of, newest_of, no_function, IsLinked, IsNoted}
 use Rattle.entity_map.proofs.PoolLemmas.{slice_get-append_end}
 use Rattle.wasm_index.specs.Index.{number_of}
 use Rattle.wasm_types.specs.declared.sub.WasmSubType.{WasmSubType}
 use Rattle.wasm_types.specs.Views.{func_in}
 use Rattle.module_types.specs.Views.{TypeIndex}
 use Rattle.module_types.specs.TypeParts.{part_at}
-use Rattle.module_types.specs.declared.met.MetType.{MetType}
-use Rattle.module_types.specs.declared.met.MetTypes.{MetTypes}
+use Rattle.module_types.specs.declared.mapped_types.MappedType.{MappedType}
+use Rattle.module_types.specs.declared.mapped_types.MappedTypes.{MappedTypes}
 
 -- ---- equality of function types
 
@@ -49,22 +49,22 @@ last-or (z ∷ zs) x (suc i) y e = grind (arith, (last-or zs x i y e))
 
 -- ---- one more
 
-pub known-more : (rs : List Met) (r : Met) (f : WasmFuncType) → known_in (rs ++ r ∷ []) f ≡ cond (func.ghosts.eq f r.key) (Some r.ty) (known_in rs f)
+pub known-more : (rs : List MappedKey) (r : MappedKey) (f : WasmFuncType) → known_in (rs ++ r ∷ []) f ≡ cond (func.ghosts.eq f r.key) (Some r.ty) (known_in rs f)
 known-more rs r f = ap (λ es. lookup (func.ghosts.eq f) (map entry_of es)) (reverse-append rs (r ∷ []))
 
 -- a longer list leads as the shorter one did
-leads-on : (digest : WasmFuncType → ℕ) (rs : List Met) (f : WasmFuncType) (c n m : ℕ) → known_in (take m rs) f ≡ known_in (take n rs) f → n ≤ m
+leads-on : (digest : WasmFuncType → ℕ) (rs : List MappedKey) (f : WasmFuncType) (c n m : ℕ) → known_in (take m rs) f ≡ known_in (take n rs) f → n ≤ m
     → Leads digest rs f c n → Leads digest rs f c m
 leads-on digest rs f c n m same long leads = grind arith
 
-leads-within : (digest : WasmFuncType → ℕ) (rs : List Met) (r : Met) (f : WasmFuncType) (c n : ℕ) → n ≤ length rs
+leads-within : (digest : WasmFuncType → ℕ) (rs : List MappedKey) (r : MappedKey) (f : WasmFuncType) (c n : ℕ) → n ≤ length rs
     → Leads digest rs f c n → Leads digest (rs ++ r ∷ []) f c n
 leads-within digest rs r f zero n long leads = ap (λ es. known_in es f) (take-append-le n rs (r ∷ []) long) ∙ leads
 leads-within digest rs r f (suc m) n long leads = grind (arith, take-append-le, long, last-or)
 
-module _ (digest : WasmFuncType → ℕ) (newest : ℕ → ℕ) (rs : List Met) (chained : AreChained digest newest rs) where
+module _ (digest : WasmFuncType → ℕ) (newest : ℕ → ℕ) (rs : List MappedKey) (chained : AreChained digest newest rs) where
   -- one of a chain, which is another type
-  pub steps-back : (f : WasmFuncType) (c : ℕ) (r : Met) → Leads digest rs f c (length rs) → 0 < c → slice_get rs (c - 1) ≡ Some r
+  pub steps-back : (f : WasmFuncType) (c : ℕ) (r : MappedKey) → Leads digest rs f c (length rs) → 0 < c → slice_get rs (c - 1) ≡ Some r
       → func.ghosts.eq f r.key ≡ false → Leads digest rs f r.before (length rs) × (r.before < c)
   steps-back f zero r leads some at other = absurd (omega (arith, some))
   steps-back f (suc m) r leads some at other =
@@ -83,7 +83,7 @@ module _ (digest : WasmFuncType → ℕ) (newest : ℕ → ℕ) (rs : List Met) 
   whole f = ap (λ es. known_in es f) (take_all (length rs) rs (omega arith))
 
   -- one of a chain, which is the type
-  pub found-there : (f : WasmFuncType) (c : ℕ) (r : Met) → Leads digest rs f c (length rs) → 0 < c → slice_get rs (c - 1) ≡ Some r
+  pub found-there : (f : WasmFuncType) (c : ℕ) (r : MappedKey) → Leads digest rs f c (length rs) → 0 < c → slice_get rs (c - 1) ≡ Some r
       → func.ghosts.eq f r.key ≡ true → Some r.ty ≡ known_in rs f
   found-there f zero r leads some at is = absurd (omega (arith, some))
   found-there f (suc m) r leads some at is =
@@ -95,9 +95,9 @@ module _ (digest : WasmFuncType → ℕ) (newest : ℕ → ℕ) (rs : List Met) 
   in-range f c leads some = grind arith
 
   -- one more is chained to the newest of its digest
-  module _ (r : Met) (behind : r.before ≡ newest (digest r.key)) (later : ℕ → ℕ)
+  module _ (r : MappedKey) (behind : r.before ≡ newest (digest r.key)) (later : ℕ → ℕ)
       (puts : (q : ℕ) → later q ≡ (if nat_eq (digest r.key) q then suc (length rs) else newest q)) where
-    abbrev all : List Met
+    abbrev all : List MappedKey
     all = rs ++ r ∷ []
 
     long : length all ≡ length rs + 1
@@ -123,12 +123,12 @@ module _ (digest : WasmFuncType → ℕ) (newest : ℕ → ℕ) (rs : List Met) 
         rw puts (by-test {P = Leads digest all f (if nat_eq (digest r.key) (digest f) then suc (length rs) else newest (digest f)) (length all)}
         (nat_eq (digest r.key) (digest f)) (λ e. rw e (to-it f (eqb-true (digest r.key) (digest f) e))) (λ e. rw e (past-it f (eqb-false (digest r.key) (digest f) e))))
 
-    pub next-more : (i : ℕ) (s : Met) → slice_get all i ≡ Some s → (f : WasmFuncType) → digest f ≡ digest s.key → Leads digest all f s.before i
+    pub next-more : (i : ℕ) (s : MappedKey) → slice_get all i ≡ Some s → (f : WasmFuncType) → digest f ≡ digest s.key → Leads digest all f s.before i
     next-more i s at f same = elim (last-or rs r i s at) [
       | inl there ↦ (let less = slice_get_within rs i s there in leads-within digest rs r f s.before i (omega (arith, less)) (chained.next i s there f same))
       | inr end ↦ (
-          let of_it : digest r.key ≡ digest f = ap (λ (t : Met). digest t.key) end.1 ∙ sym same in
-          let count : newest (digest f) ≡ s.before = ap newest (sym of_it) ∙ sym behind ∙ ap (λ (t : Met). t.before) end.1 in
+          let of_it : digest r.key ≡ digest f = ap (λ (t : MappedKey). digest t.key) end.1 ∙ sym same in
+          let count : newest (digest f) ≡ s.before = ap newest (sym of_it) ∙ sym behind ∙ ap (λ (t : MappedKey). t.before) end.1 in
           let leads : Leads digest all f (newest (digest f)) (length rs) =
           leads-within digest rs r f (newest (digest f)) (length rs) (omega arith) (chained.first f) in
           coe 0 1 (j. Leads digest all f (count j) (sym end.0 j)) leads
@@ -143,12 +143,12 @@ module _ (digest : WasmFuncType → ℕ) (newest : ℕ → ℕ) (rs : List Met) 
 abbrev part_of : WasmSubType → Option WasmFuncType
 part_of t = func_in t.composite_type.inner
 
-abbrev Stand : List WasmSubType → List MetType → Type 0
-Stand types ms = (i : ℕ) (t : MetType) → slice_get ms i ≡ Some t → IsSome (part_at func_in types t.ty)
+abbrev Stand : List WasmSubType → List MappedType → Type 0
+Stand types ms = (i : ℕ) (t : MappedType) → slice_get ms i ≡ Some t → IsSome (part_at func_in types t.ty)
 
 -- the type that was read at an index
-pub key-read : (types : List WasmSubType) (m : MetType) (t : WasmSubType) (g : WasmFuncType) → slice_get types (number_of m.ty) ≡ Some t
-    → func_in t.composite_type.inner ≡ Some g → (met_of types m).key ≡ g
+pub key-read : (types : List WasmSubType) (m : MappedType) (t : WasmSubType) (g : WasmFuncType) → slice_get types (number_of m.ty) ≡ Some t
+    → func_in t.composite_type.inner ≡ Some g → (mapped_key_of types m).key ≡ g
 key-read types m t g at is = ap (λ o. unwrap_or (option_and_then part_of o) no_function) at ∙ ap (λ o. unwrap_or o no_function) is
 
 pub part-below : (types : List WasmSubType) (i : TypeIndex) → IsSome (part_at func_in types i) → number_of i < length types
@@ -164,27 +164,27 @@ read-within ts us i some = by ts (number_of i) some where
   by (x ∷ xs) (suc n) h = by xs n h
 
 module _ (types more : List WasmSubType) where
-  mets-within : (ms : List MetType) → Stand types ms → mets (types ++ more) ms ≡ mets types ms
-  mets-within [] stand = refl
-  mets-within (m ∷ ms) stand =
-      λ i. record { key = unwrap_or (read-within types more m.ty (stand 0 m refl) i) no_function; ty = m.ty; before = m.before } ∷ mets-within ms (λ k t. stand (suc k) t) i
+  mapped_keys-within : (ms : List MappedType) → Stand types ms → mapped_keys (types ++ more) ms ≡ mapped_keys types ms
+  mapped_keys-within [] stand = refl
+  mapped_keys-within (m ∷ ms) stand =
+      λ i. record { key = unwrap_or (read-within types more m.ty (stand 0 m refl) i) no_function; ty = m.ty; before = m.before } ∷ mapped_keys-within ms (λ k t. stand (suc k) t) i
 
-  module _ (m : MetTypes) (linked : IsLinked types m) where
-    pub known-on : met_at (types ++ more) m ≡ met_at types m
-    known-on = ap known_in (mets-within m.types.items linked.standing)
+  module _ (m : MappedTypes) (linked : IsLinked types m) where
+    pub known-on : mapped_at (types ++ more) m ≡ mapped_at types m
+    known-on = ap known_in (mapped_keys-within m.types.items linked.standing)
 
     pub linked-on : IsLinked (types ++ more) m
-    linked-on = grind (arith, read-within, mets-within)
+    linked-on = grind (arith, read-within, mapped_keys-within)
 
 -- ---- one more is recorded
 
-module _ (types : List WasmSubType) (old new : MetTypes) (f : WasmFuncType) (ty : TypeIndex) (linked : IsLinked types old)
+module _ (types : List WasmSubType) (old new : MappedTypes) (f : WasmFuncType) (ty : TypeIndex) (linked : IsLinked types old)
     (stands : part_at func_in types ty ≡ Some f) (digest : ℕ) (is : digest ≡ digest_of old.hasher f)
-    (hasher : new.hasher ≡ old.hasher) (m : MetType) (at : m.ty ≡ ty) (before : m.before ≡ newest_of old digest)
+    (hasher : new.hasher ≡ old.hasher) (m : MappedType) (at : m.ty ≡ ty) (before : m.before ≡ newest_of old digest)
     (listed : new.types.items ≡ old.types.items ++ m ∷ [])
     (puts : (q : ℕ) → newest_of new q ≡ (if nat_eq digest q then suc (length old.types.items) else newest_of old q)) where
-  abbrev r : Met
-  r = met_of types m
+  abbrev r : MappedKey
+  r = mapped_key_of types m
 
   part : part_at func_in types m.ty ≡ Some f
   part = ap (part_at func_in types) at ∙ stands
@@ -192,8 +192,8 @@ module _ (types : List WasmSubType) (old new : MetTypes) (f : WasmFuncType) (ty 
   key-is-f : r.key ≡ f
   key-is-f = ap (λ o. unwrap_or o no_function) part
 
-  with-r : mets types new.types.items ≡ mets types old.types.items ++ r ∷ []
-  with-r = ap (mets types) listed ∙ map-append (met_of types) old.types.items (m ∷ [])
+  with-r : mapped_keys types new.types.items ≡ mapped_keys types old.types.items ++ r ∷ []
+  with-r = ap (mapped_keys types) listed ∙ map-append (mapped_key_of types) old.types.items (m ∷ [])
 
   pub is-noted : IsNoted types old new f ty
   is-noted = record {
@@ -203,7 +203,7 @@ module _ (types : List WasmSubType) (old new : MetTypes) (f : WasmFuncType) (ty 
 
 -- ---- none was recorded
 
-pub linked-none : (types : List WasmSubType) (m : MetTypes) → m.types.items ≡ [] → ((q : ℕ) → newest_of m q ≡ 0) → IsLinked types m
+pub linked-none : (types : List WasmSubType) (m : MappedTypes) → m.types.items ≡ [] → ((q : ℕ) → newest_of m q ≡ 0) → IsLinked types m
 linked-none types m none nothing = grind arith
 
 -- ---- the last of a list

@@ -21,7 +21,7 @@ use Rattle.wasm_convert.specs.Known.{CanLookUp, Known, CanConvert}
 use Rattle.module_types.specs.Views.{TypeIndex, interned_number, interned_of, span_of}
 use Rattle.module_types.specs.Conversion.{id_number, group_of_id, members_of, index_by_id, name_by_id, look_by_id, StandsInterned, KnowsId, HasIndex, interned_members, kinds_of}
 use Rattle.module_types.specs.TypeList.{TypeList}
-use Rattle.module_types.specs.Noted.{noted_at}
+use Rattle.module_types.specs.IndicesByKey.{noted_at}
 use Rattle.module_types.specs.Builder.{Builder, BuilderState, builder_view}
 use Rattle.module_types.specs.Converter.{TypesAndGroup, KnowsIndex, HaveIndices}
 use Rattle.wasm_index.specs.Index.{number_of, index_of}

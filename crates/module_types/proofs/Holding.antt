@@ -13,7 +13,7 @@ use Rattle.module_types.proofs.GroupKinds.{same-long, taken-on, taken-behind}
 use Rattle.std.specs.Option.{unwrap_or, option_map}
 use Rattle.entity_map.specs.Secondary.{written}
 use Rattle.entity_map.proofs.SecondaryLemmas.{slice_get-written, slice_get-written_elsewhere}
-use Rattle.module_types.specs.Noted.{noted_at, note_of, notes_of}
+use Rattle.module_types.specs.IndicesByKey.{noted_at, note_of, notes_of}
 use Rattle.module_types.specs.Runs.{with_groups, runs, seen_in, firsts}
 use Rattle.std.proofs.lemmas.List.{length-map}
 use Rattle.wasm_index.specs.declared.index.Index.{Index}

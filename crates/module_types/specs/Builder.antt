@@ -11,7 +11,7 @@ use Rattle.wasm_types.specs.contracts.equal.WasmFuncTypePartialEq.TheImpl as fun
 use Rattle.module_types.specs.Views.{TypeIndex}
 use Rattle.module_types.specs.TypeList.{TypeList}
 use Rattle.module_types.specs.Held.{built_of}
-use Rattle.module_types.specs.Noted.{noted_at}
+use Rattle.module_types.specs.IndicesByKey.{noted_at}
 
 -- what a builder keeps: the validator's number, its list, and the recorded mapped types with their
 -- indices, in some order; and two lists: at the index of an id the group that was interned under

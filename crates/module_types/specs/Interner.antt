@@ -12,20 +12,20 @@ use Rattle.type_spec.specs.Interned.{Called, Built, plain, alone, with_trampolin
 use Rattle.module_types.specs.Orderly.{IsOrderly}
 use Rattle.module_types.specs.declared.interner.Interner.{Interner}
 use Rattle.module_types.specs.Held.{built_of}
-use Rattle.module_types.specs.Noted.{noted_at}
+use Rattle.module_types.specs.IndicesByKey.{noted_at}
 use Rattle.module_types.specs.Builder.{Builder, new_builder}
-use Rattle.module_types.specs.Met.{digest_of, met_at, IsLinked}
+use Rattle.module_types.specs.MappedTypes.{digest_of, mapped_at, IsLinked}
 
 -- where the recorded function types are
 abbrev pub known : Interner → WasmFuncType → Option TypeIndex
-known i = met_at i.list.types i.met
+known i = mapped_at i.list.types i.mapped_types
 
 abbrev pub built : Interner → Built
 built i = built_of i.list (known i)
 
 -- each recorded type is found
-abbrev pub FindsMet : Interner → Type 0
-FindsMet i = IsLinked i.list.types i.met
+abbrev pub FindsMapped : Interner → Type 0
+FindsMapped i = IsLinked i.list.types i.mapped_types
 
 -- the same, with the ids of its groups, as a builder that holds nothing else
 abbrev pub holding : Built → List (Option ℕ) → Builder
@@ -34,7 +34,7 @@ holding b ids = record (new_builder 0) { built = b; ids = noted_at ids }
 -- between growing calls
 pub record IsSound (i : Interner) : Type 0 where
   pub orderly : IsOrderly (built i)
-  pub found : FindsMet i
+  pub found : FindsMapped i
 
 -- the type at an index gets the trampoline that comes next, of a mapped type
 abbrev pub with_next_trampoline : Built → ℕ → Called → Built

@@ -2,10 +2,10 @@ pub mod Views
 pub mod TypeList
 pub mod Held
 pub mod Orderly
-pub mod Noted
+pub mod IndicesByKey
 pub mod TypeParts
 pub mod Passed
-pub mod Met
+pub mod MappedTypes
 pub mod Interner
 pub mod Builder
 pub mod Conversion

@@ -8,10 +8,10 @@ ghost use Rattle.wasm_index.specs.Index.{number_of, index_of};
 ghost use Rattle.module_types.specs.TypeList.{trampoline_at, elements_of, called_from};
 
 use crate::error::BuildError;
+use crate::indices_by_key::IndicesByKey;
 use crate::interner::Interner;
 use crate::iterators::{RecGroupElements, TrampolineTypes};
 use crate::list::{ModuleTypes, WasmTypesIter};
-use crate::noted::NotedIndices;
 use entity_map::EntityRef;
 use form_types::{Validator, ValidatorId};
 use std::alloc::Global;
@@ -33,9 +33,9 @@ pub struct ModuleTypesBuilder {
     validator: ValidatorId,
     pub(crate) interner: Interner,
     /// The group that was interned under each id of a group.
-    pub(crate) ids: NotedIndices<ModuleInternedRecGroupSpace>,
+    pub(crate) ids: IndicesByKey<ModuleInternedRecGroupSpace>,
     /// The exception type of each function type that has one.
-    exceptions: NotedIndices<ModuleInternedTypeSpace>,
+    exceptions: IndicesByKey<ModuleInternedTypeSpace>,
     startup: Option<ModuleInternedTypeIndex>,
     pub(crate) poisoned: bool,
 }
@@ -44,7 +44,7 @@ pub struct ModuleTypesBuilder {
 /// exception types and groups; `builder_view` combines them.
 impl Model for ModuleTypesBuilder {
     ghost use Rattle.std.specs.Prelude.{◌≡◌, false};
-    ghost use Rattle.module_types.specs.Met.{entries_of, mets};
+    ghost use Rattle.module_types.specs.MappedTypes.{entries_of, mapped_keys};
     ghost use Rattle.module_types.specs.Interner.{IsSound, built};
     ghost use Rattle.module_types.specs.Listed.{MayBeListed};
     ghost use Rattle.module_types.specs.Builder.{BuilderState};
@@ -54,7 +54,7 @@ impl Model for ModuleTypesBuilder {
     ghost view = { λ b. record {
       validator = b.validator.0;
       list = b.interner.list;
-      trampolines = entries_of (mets b.interner.list.types b.interner.met.types.items);
+      trampolines = entries_of (mapped_keys b.interner.list.types b.interner.mapped_types.types.items);
       ids = b.ids;
       exceptions = b.exceptions;
       startup = b.startup;
@@ -78,8 +78,8 @@ impl ModuleTypesBuilder {
             alloc,
             validator,
             interner: Interner::new(alloc),
-            ids: NotedIndices::new(alloc),
-            exceptions: NotedIndices::new(alloc),
+            ids: IndicesByKey::new(alloc),
+            exceptions: IndicesByKey::new(alloc),
             startup: None,
             poisoned: false,
         }

@@ -7,11 +7,11 @@ ghost use Rattle.form_data.specs.Views as form;
 ghost use Rattle.wasm_index.specs.Index.{number_of, index_of};
 ghost use Rattle.wasm_types.specs.ValueViews.{heap_of};
 ghost use Rattle.module_types.specs.Views.{index_at, span_of};
-ghost use Rattle.module_types.specs.Noted.{noted_at};
+ghost use Rattle.module_types.specs.IndicesByKey.{noted_at};
 ghost use Rattle.module_types.specs.Conversion.{HasIndex, KnowsId, index_by_id, look_by_id};
 
+use crate::indices_by_key::IndicesByKey;
 use crate::list::ModuleTypes;
-use crate::noted::NotedIndices;
 use entity_map::EntityRef;
 use form_data::CompositeInnerType;
 use form_types::Types;
@@ -42,7 +42,7 @@ pub(crate) fn reference_to(
 pub(crate) struct GroupConverter<'a> {
     pub(crate) list: &'a ModuleTypes,
     /// The group that was interned under each id of a group.
-    pub(crate) ids: &'a NotedIndices<ModuleInternedRecGroupSpace>,
+    pub(crate) ids: &'a IndicesByKey<ModuleInternedRecGroupSpace>,
     pub(crate) types: &'a Types,
     /// The index at which the group starts that is interned next.
     pub(crate) next: ModuleInternedTypeIndex,

@@ -11,14 +11,14 @@ ghost use Rattle.module_types.specs.Views.{called_of, interned_of, field_at};
 ghost use Rattle.module_types.specs.Builder.{is_function};
 ghost use Rattle.module_types.specs.Conversion.{interned_members};
 ghost use Rattle.module_types.specs.InTurn.{CanIntern};
-ghost use Rattle.module_types.specs.Interner.{built, holding, known, with_next_trampoline, FindsMet, IsSound, IsTrampoline};
+ghost use Rattle.module_types.specs.Interner.{built, holding, known, with_next_trampoline, FindsMapped, IsSound, IsTrampoline};
 ghost use Rattle.module_types.specs.Listed.{MayBeListed};
-ghost use Rattle.module_types.specs.Met.{digest_of};
+ghost use Rattle.module_types.specs.MappedTypes.{digest_of};
 
 use crate::group_converter::GroupConverter;
+use crate::indices_by_key::IndicesByKey;
 use crate::list::ModuleTypes;
-use crate::met::MetTypes;
-use crate::noted::NotedIndices;
+use crate::mapped_types::MappedTypes;
 use entity_map::{EntityRef, OutOfMemory, TryCow};
 use form_types::{RecGroupId, Types};
 use std::alloc::Global;
@@ -33,7 +33,7 @@ use wasm_types::{
 #[derive(Drop)]
 pub(crate) struct Interner {
     pub(crate) list: ModuleTypes,
-    pub(crate) met: MetTypes,
+    pub(crate) mapped_types: MappedTypes,
 }
 
 // A final function type without supertype.
@@ -80,22 +80,22 @@ impl Interner {
     /// An interner that holds nothing.
     pub(crate) fn new(alloc: Global) -> Interner
         ensures built { built result ≡ empty }
-        ensures found { FindsMet result }
+        ensures found { FindsMapped result }
     {
         Interner {
             list: ModuleTypes::new(alloc),
-            met: MetTypes::new(alloc, 0),
+            mapped_types: MappedTypes::new(alloc, 0),
         }
     }
 
     // Lets the digests of mapped types begin from a seed, as long as no trampoline is known.
     fn seed_from(&mut self, alloc: Global, seed: u64)
-        requires found { FindsMet self.old }
+        requires found { FindsMapped self.old }
         ensures built { built self.new ≡ built self.old }
-        ensures found { FindsMet self.new }
+        ensures found { FindsMapped self.new }
     {
-        if self.met.types.is_empty() {
-            self.met = MetTypes::new(alloc, seed);
+        if self.mapped_types.types.is_empty() {
+            self.mapped_types = MappedTypes::new(alloc, seed);
         }
     }
 
@@ -110,7 +110,7 @@ impl Interner {
         ensures built { OnOk result (built self.new ≡ alone (built self.old) (interned_of ty) (option_map number_of trampoline)) }
         ensures sound { OnOk result (IsSound self.new) }
         ensures types { OnOk result (self.new.list.types ≡ self.old.list.types ++ ty ∷ []) }
-        ensures met { self.new.met ≡ self.old.met }
+        ensures mapped { self.new.mapped_types ≡ self.old.mapped_types }
     {
         let start = self.list.push_called(ty, trampoline)?;
         let end = self.list.next_ty();
@@ -121,11 +121,11 @@ impl Interner {
     // The type by which functions of a type are called: its index, or else the type with its
     // digest.
     fn find_trampoline(&self, alloc: Global, func: &WasmFuncType) -> Result<Trampoline, OutOfMemory>
-        requires found { FindsMet self.now }
-        ensures { IfOk result (IsTrampoline (known self.now) self.now.met.hasher func.now) }
+        requires found { FindsMapped self.now }
+        ensures { IfOk result (IsTrampoline (known self.now) self.now.mapped_types.hasher func.now) }
     {
-        let digest = self.met.digest(func);
-        if let Some(found) = self.met.find(&self.list, digest, func) {
+        let digest = self.mapped_types.digest(func);
+        if let Some(found) = self.mapped_types.find(&self.list, digest, func) {
             return Ok(Trampoline::Known(found));
         }
         match func.trampoline_type(alloc)? {
@@ -145,14 +145,14 @@ impl Interner {
         requires room { length self.old.list.types < u32.MAX - 1 }
         requires sound { IsSound self.old }
         requires mapped { trampoline_of mapped ≡ mapped }
-        requires digest { digest ≡ digest_of self.old.met.hasher mapped }
+        requires digest { digest ≡ digest_of self.old.mapped_types.hasher mapped }
         ensures built { OnOk result (built self.new ≡ with_next_trampoline (built self.old) (number_of ty) (called_of mapped)) }
-        ensures found { OnOk result (FindsMet self.new) }
+        ensures found { OnOk result (FindsMapped self.new) }
     {
         let trampoline = self.list.next_ty();
         self.list.set_trampoline(ty, trampoline);
         self.push_alone(plain_function(mapped), Some(trampoline))?;
-        self.met.note(digest, trampoline)
+        self.mapped_types.note(digest, trampoline)
     }
 
     // Gives the type at an index its trampoline, if it is a function.
@@ -165,7 +165,7 @@ impl Interner {
         requires sound { IsSound self.old }
         requires room { length (assign_trampoline (built self.old) (number_of ty) (composite_at (built self.old).types (number_of ty))).types < u32.MAX }
         ensures built { OnOk result (built self.new ≡ assign_trampoline (built self.old) (number_of ty) (composite_at (built self.old).types (number_of ty))) }
-        ensures found { OnOk result (FindsMet self.new) }
+        ensures found { OnOk result (FindsMapped self.new) }
     {
         let WasmCompositeInnerType::Func(func) = &self.list[ty].composite_type.inner else {
             return Ok(());
@@ -173,7 +173,7 @@ impl Interner {
         match self.find_trampoline(alloc, func)? {
             Trampoline::Known(found) => self.list.set_trampoline(ty, found),
             Trampoline::Itself(digest) => {
-                self.met.note(digest, ty)?;
+                self.mapped_types.note(digest, ty)?;
                 self.list.set_trampoline(ty, ty);
             }
             Trampoline::New(digest, mapped) => self.push_trampoline(ty, digest, mapped)?,
@@ -200,7 +200,7 @@ impl Interner {
     pub(crate) fn push_group(
         &mut self,
         alloc: Global,
-        ids: &NotedIndices<ModuleInternedRecGroupSpace>,
+        ids: &IndicesByKey<ModuleInternedRecGroupSpace>,
         types: &Types,
         id: RecGroupId,
     ) -> Result<(), OutOfMemory>

@@ -1,7 +1,7 @@
 use Rattle.std.proofs.Common.{◌≡◌, ◌∙◌, ◌+◌, ◌++◌, ◌∷◌, [], ◌<◌, List, take, drop, map, get_or, length, sym, ap, arith}
 use Rattle.std.proofs.lemmas.List.{take_more, take_more_set, drop_more, drop-set-lt, length-set, map-append}
 use Rattle.wasm_spec.specs.declared.types.UnpackedIndex.{UnpackedIndex}
-use Rattle.form_types.specs.Seen.{ids_of}
+use Rattle.form_types.specs.EarlierTypes.{ids_of}
 use Rattle.form_types.specs.Keys.{canonical_index}
 use Rattle.form_types.proofs.finding.name_targets.Goals as goal
 
@@ -11,7 +11,7 @@ loop-place-preserved c =
     let now : List UnpackedIndex = c.loop-place.references.items in
     let read : List UnpackedIndex = c.args.references.now.items in
     let d : UnpackedIndex = c.index.result.now in
-    let target = canonical_index (ids_of c.args.seen.ids.now) c.args.seen.start in
+    let target = canonical_index (ids_of c.args.earlier.ids.now) c.args.earlier.start in
     let lt : i < length now = omega (arith, c.loop-place-test.true, c.len-place-end.ensures, c.loop-place.invariant.long, c.args.references.now.ok.0) in
     let lt' : i < length read = omega (arith, lt, c.loop-place.invariant.long) in
     let next : get_or now i d ∷ drop (i + 1) now ≡ get_or read i d ∷ drop (i + 1) read =

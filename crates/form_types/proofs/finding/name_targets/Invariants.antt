@@ -1,5 +1,5 @@
 use Rattle.std.proofs.Common.{◌≡◌, take, drop, length}
-use Rattle.form_types.specs.Seen.{ids_of}
+use Rattle.form_types.specs.EarlierTypes.{ids_of}
 use Rattle.form_types.specs.Keys.{targets}
 use Rattle.form_types.proofs.finding.name_targets.Given as goal
 
@@ -7,6 +7,6 @@ use Rattle.form_types.proofs.finding.name_targets.Given as goal
 abbrev pub invariant-loop-place : goal.invariant-loop-place
 invariant-loop-place l = record {
   long : length l.references.items ≡ length l.initial.references.items;
-  named : take l.place l.references.items ≡ targets (ids_of l.seen.ids.now) l.seen.start (take l.place l.initial.references.items);
+  named : take l.place l.references.items ≡ targets (ids_of l.earlier.ids.now) l.earlier.start (take l.place l.initial.references.items);
   left : drop l.place l.references.items ≡ drop l.place l.initial.references.items;
 }

@@ -1,5 +1,5 @@
 use Rattle.wasm_spec.specs.TypeData.{field_of, map_field}
-use Rattle.form_types.specs.Seen.{ids_of}
+use Rattle.form_types.specs.EarlierTypes.{ids_of}
 use Rattle.form_types.specs.Placed.{named_index}
 use Rattle.form_types.proofs.InPlace.{one_changed}
 use Rattle.form_types.proofs.named.name_fields.Goals as goal

@@ -7,7 +7,7 @@ use Rattle.type_data.specs.TypeShapes.{group_shape}
 use Rattle.type_data.specs.Names.{plainly}
 use Rattle.form_data.specs.Views.{sub_type_of}
 use Rattle.form_types.specs.Types.{NamedGroup}
-use Rattle.form_types.specs.Seen.{ids_of}
+use Rattle.form_types.specs.EarlierTypes.{ids_of}
 use Rattle.form_types.specs.Placed.{named_index}
 use Rattle.form_types.proofs.InPlace.{one_changed}
 use Rattle.form_types.proofs.named.name_group.Goals as goal

@@ -1,6 +1,6 @@
 use Rattle.wasm_spec.specs.TypeData.{map_sub_type}
 use Rattle.form_data.specs.Views.{sub_type_of}
-use Rattle.form_types.specs.Seen.{ids_of}
+use Rattle.form_types.specs.EarlierTypes.{ids_of}
 use Rattle.form_types.specs.Placed.{named_index}
 use Rattle.form_types.proofs.InPlace.{Changes}
 use Rattle.form_types.proofs.named.name_group.Given as goal

@@ -3,7 +3,7 @@ use Rattle.std.proofs.lemmas.List.{length-map}
 use Rattle.type_spec.specs.Interned.{with_group}
 use Rattle.form_types.specs.Types.{TypesData}
 use Rattle.wasm_index.specs.Index.{number_of}
-use Rattle.module_types.specs.Noted.{noted_at}
+use Rattle.module_types.specs.IndicesByKey.{noted_at}
 use Rattle.module_types.specs.Views.{span_of}
 use Rattle.module_types.specs.Builder.{BuilderState, builder_view, interns, interns_by}
 use Rattle.module_types.specs.Conversion.{interned_members, HoldsGroups, NamesInterned}

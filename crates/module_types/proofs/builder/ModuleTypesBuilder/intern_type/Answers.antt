@@ -3,7 +3,7 @@ use Rattle.std.proofs.lemmas.List.{length-map}
 use Rattle.module_types.specs.Views.{interned_of, span_of}
 use Rattle.wasm_index.specs.Index.{number_of}
 use Rattle.module_types.specs.Builder.{builder_view, interns}
-use Rattle.module_types.specs.Noted.{noted_at}
+use Rattle.module_types.specs.IndicesByKey.{noted_at}
 use Rattle.module_types.specs.Conversion.{interned_members, NamesInterned, HasIndex}
 use Rattle.module_types.proofs.Convertible.{members-kinds}
 use Rattle.module_types.proofs.Holding.{has-index}

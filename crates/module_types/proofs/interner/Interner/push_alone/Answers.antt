@@ -7,7 +7,7 @@ use Rattle.module_types.specs.TypeList.{TypeList, with_type, with_range}
 use Rattle.module_types.specs.Held.{built_of}
 use Rattle.module_types.specs.Orderly.{IsOrderly}
 use Rattle.module_types.specs.Interner.{known, built}
-use Rattle.module_types.specs.Met.{met_at, IsLinked}
+use Rattle.module_types.specs.MappedTypes.{mapped_at, IsLinked}
 use Rattle.module_types.proofs.GroupMembers.{few-groups, orderly-more}
 use Rattle.module_types.proofs.Chaining.{known-on, linked-on}
 use Rattle.module_types.proofs.Steps.{alone-is}
@@ -25,8 +25,8 @@ returns-clause-built c =
     let i = c.args.self.now in
     let range : Range TypeIndex = record { start = c.in_ok-start.start; end = c.next_ty-end.result } in
     let listed = c.in_ok-push_rec_group.ensures.ok ∙ ap (λ l. with_range l range) c.in_ok-start.ensures.ok in
-    ap (λ (l : TypeList). built_of l (met_at l.types i.met)) listed
-    ∙ ap (built_of (with_range (with_type i.list c.args.ty c.args.trampoline) range)) (known-on i.list.types (c.args.ty ∷ []) i.met c.requires.sound.found)
+    ap (λ (l : TypeList). built_of l (mapped_at l.types i.mapped_types)) listed
+    ∙ ap (built_of (with_range (with_type i.list c.args.ty c.args.trampoline) range)) (known-on i.list.types (c.args.ty ∷ []) i.mapped_types c.requires.sound.found)
     ∙ alone-is i.list (known i) c.args.ty c.args.trampoline range c.in_ok-start.ensures.index
     (c.next_ty-end.ensures ∙ ap (λ l. index_of (length l.types)) c.in_ok-start.ensures.ok)
 
@@ -38,5 +38,5 @@ returns-clause-sound c =
     let i = c.args.self.now in
     record {
       orderly = coe 0 1 (j. IsOrderly (sym (returns-clause-built c) j)) (orderly-more (built i) (interned_of c.args.ty) [] c.requires.sound.orderly);
-      found = coe 0 1 (j. IsLinked (sym (returns-clause-types c) j) i.met) (linked-on i.list.types (c.args.ty ∷ []) i.met c.requires.sound.found);
+      found = coe 0 1 (j. IsLinked (sym (returns-clause-types c) j) i.mapped_types) (linked-on i.list.types (c.args.ty ∷ []) i.mapped_types c.requires.sound.found);
     }

@@ -19,14 +19,14 @@ use Rattle.wasm_index.specs.Index.{number_of, index_of}
 use Rattle.module_types.specs.Views.{TypeIndex, interned_of, span_of}
 use Rattle.module_types.specs.TypeList.{TypeList, with_type, with_types, with_range}
 use Rattle.module_types.specs.Orderly.{IsOrderly}
-use Rattle.module_types.specs.Noted.{noted_at}
+use Rattle.module_types.specs.IndicesByKey.{noted_at}
 use Rattle.module_types.specs.Builder.{Builder}
 use Rattle.module_types.specs.Conversion.{id_number, members_of, interned_members, index_by_id, name_by_id, KnowsId, look_by_id}
 use Rattle.module_types.specs.InTurn.{CanIntern}
 use Rattle.module_types.specs.Held.{built_of}
 use Rattle.module_types.specs.declared.interner.Interner.{Interner}
-use Rattle.module_types.specs.Interner.{known, built, holding, FindsMet}
-use Rattle.module_types.specs.Met.{met_at, IsLinked}
+use Rattle.module_types.specs.Interner.{known, built, holding, FindsMapped}
+use Rattle.module_types.specs.MappedTypes.{mapped_at, IsLinked}
 use Rattle.module_types.specs.Listed.{IsUnshared, MayBeListed}
 use Rattle.module_types.proofs.NamedGroups.{group-listed}
 use Rattle.module_types.proofs.Chaining.{known-on, linked-on}
@@ -85,19 +85,19 @@ module _ (i now : Interner) {ts : List Interned} {n : ℕ} (g : Grown i now ts n
   grown-more ty l pushed next = record { more = g.more ++ ty ∷ []; is = grind (arith, common_steps); are = grind (arith, map-append, g.are) }
 
   -- all are there
-  module _ (range : Range TypeIndex) (l : TypeList) (pushed : l ≡ with_range now.list range) (found : FindsMet i) where
+  module _ (range : Range TypeIndex) (l : TypeList) (pushed : l ≡ with_range now.list range) (found : FindsMapped i) where
     listed : l ≡ with_range (with_types i.list g.more) range
     listed = pushed ∙ ap (λ (s : Interner). with_range s.list range) g.is
 
-    found-now : FindsMet (record now { list = l })
-    found-now = coe 0 1 (j. IsLinked (sym listed j).types (sym g.is j).met) (linked-on i.list.types g.more i.met found)
+    found-now : FindsMapped (record now { list = l })
+    found-now = coe 0 1 (j. IsLinked (sym listed j).types (sym g.is j).mapped_types) (linked-on i.list.types g.more i.mapped_types found)
 
     module _ (start : range.start ≡ index_of (length i.list.types)) (end : range.end ≡ index_of (length now.list.types)) (past : length ts ≤ n)
         (b : Built) (seeded : b ≡ built (record now { list = l })) where
       opened-now : b ≡ opened (built i) ts
       opened-now =
-          seeded ∙ (λ j. built_of (listed j) (met_at (listed j).types (g.is j).met))
-          ∙ ap (built_of (with_range (with_types i.list g.more) range)) (known-on i.list.types g.more i.met found)
+          seeded ∙ (λ j. built_of (listed j) (mapped_at (listed j).types (g.is j).mapped_types))
+          ∙ ap (built_of (with_range (with_types i.list g.more) range)) (known-on i.list.types g.more i.mapped_types found)
           ∙ opened-is i.list (known i) g.more range start (end ∙ ap (λ (s : Interner). index_of (length s.list.types)) g.is)
           ∙ ap (opened (built i)) (g.are ∙ take_all n ts past)
 

@@ -4,7 +4,7 @@ ghost use Rattle.std.specs.Prelude.{◌≡◌, ◌<◌, [], OnOk};
 ghost use Rattle.std.specs.Option.{option_map};
 ghost use Rattle.wasm_index.specs.Index.{number_of};
 ghost use Rattle.module_types.specs.Builder.{noted};
-ghost use Rattle.module_types.specs.Noted.{noted_at};
+ghost use Rattle.module_types.specs.IndicesByKey.{noted_at};
 
 use entity_map::{EntityRef, OutOfMemory};
 use std::alloc::Global;
@@ -15,28 +15,28 @@ use wasm_index::Index;
 /// so the keys must be indices of a list that is in memory. (A secondary map is for keys below
 /// `u32::MAX`; here each number may be a key.)
 #[derive(Drop)]
-pub(crate) struct NotedIndices<Space> {
+pub(crate) struct IndicesByKey<Space> {
     // Indices as numbers, and `u32::MAX` where none was recorded.
     items: Vec<u32>,
     space: PhantomData<Space>,
 }
 
 /// A contract sees the list of the indices as numbers, each at its key.
-impl<Space> Model for NotedIndices<Space> {
+impl<Space> Model for IndicesByKey<Space> {
     ghost use Rattle.std.specs.Prelude.{ℕ, List, Option};
-    ghost use Rattle.module_types.specs.Noted.{notes_of};
+    ghost use Rattle.module_types.specs.IndicesByKey.{notes_of};
 
     ghost Value = { List (Option ℕ) };
 
     ghost view = { λ m. notes_of m.items.items };
 }
 
-impl<Space> NotedIndices<Space> {
+impl<Space> IndicesByKey<Space> {
     /// Nothing is recorded yet. It needs no memory.
     pub(crate) fn new(alloc: Global) -> Self
         ensures { result ≡ [] }
     {
-        NotedIndices {
+        IndicesByKey {
             items: Vec::new(alloc),
             space: PhantomData,
         }

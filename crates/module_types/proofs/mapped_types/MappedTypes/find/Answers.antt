@@ -10,21 +10,21 @@ use Rattle.wasm_types.specs.contracts.equal.WasmFuncTypePartialEq.TheImpl as fun
 use Rattle.wasm_types.specs.Trampolines.{trampoline_of}
 use Rattle.wasm_types.specs.Views.{func_in}
 use Rattle.module_types.specs.TypeParts.{part_at}
-use Rattle.module_types.specs.declared.met.MetType.{MetType}
-use Rattle.module_types.specs.declared.met.MetTypes.{MetTypes}
-use Rattle.module_types.specs.Met.{Met, digest_of, newest_of, met_of, mets, met_at, Leads, IsLinked}
+use Rattle.module_types.specs.declared.mapped_types.MappedType.{MappedType}
+use Rattle.module_types.specs.declared.mapped_types.MappedTypes.{MappedTypes}
+use Rattle.module_types.specs.MappedTypes.{MappedKey, digest_of, newest_of, mapped_key_of, mapped_keys, mapped_at, Leads, IsLinked}
 use Rattle.module_types.proofs.Chaining.{at-map, in-range, found-there, steps-back, key-read, part-below}
-use Rattle.module_types.proofs.met.MetTypes.find.Goals as goal
+use Rattle.module_types.proofs.mapped_types.MappedTypes.find.Goals as goal
 
 -- one of a chain, which was read
-module _ {types : List WasmSubType} {m : MetTypes} (linked : IsLinked types m) (f : WasmFuncType) (left : ℕ)
-    (leads : Leads (digest_of m.hasher) (mets types m.types.items) f left (length (mets types m.types.items))) (some : 0 < left)
-    {e : MetType} (at : e ≡ get_or m.types.items (left - 1) e) where
-  abbrev rs : List Met
-  rs = mets types m.types.items
+module _ {types : List WasmSubType} {m : MappedTypes} (linked : IsLinked types m) (f : WasmFuncType) (left : ℕ)
+    (leads : Leads (digest_of m.hasher) (mapped_keys types m.types.items) f left (length (mapped_keys types m.types.items))) (some : 0 < left)
+    {e : MappedType} (at : e ≡ get_or m.types.items (left - 1) e) where
+  abbrev rs : List MappedKey
+  rs = mapped_keys types m.types.items
 
   pub read : slice_get m.types.items (left - 1) ≡ Some e
-  read = slice_get_read m.types.items (length rs) (left - 1) e (length-map m.types.items (met_of types))
+  read = slice_get_read m.types.items (length rs) (left - 1) e (length-map m.types.items (mapped_key_of types))
       (in-range (digest_of m.hasher) (newest_of m) rs linked.chained f left leads some) at
 
   pub stands-there : IsSome (part_at func_in types e.ty)
@@ -34,38 +34,38 @@ module _ {types : List WasmSubType} {m : MetTypes} (linked : IsLinked types m) (
   is-function t stands = coe 0 1 (i. IsSome (ap (option_and_then (λ (u : WasmSubType). func_in u.composite_type.inner)) stands i)) stands-there
 
   module _ {t : WasmSubType} {g : WasmFuncType} (stands : slice_get types (number_of e.ty) ≡ Some t) (is : func_in t.composite_type.inner ≡ Some g) where
-    key : (met_of types e).key ≡ g
+    key : (mapped_key_of types e).key ≡ g
     key = key-read types e t g stands is
 
-    pub found-is : func.ghosts.eq f g ≡ true → Some e.ty ≡ met_at types m f
+    pub found-is : func.ghosts.eq f g ≡ true → Some e.ty ≡ mapped_at types m f
     found-is same =
-        found-there (digest_of m.hasher) (newest_of m) rs linked.chained f left (met_of types e) leads some (at-map (met_of types) m.types.items (left - 1) e read)
+        found-there (digest_of m.hasher) (newest_of m) rs linked.chained f left (mapped_key_of types e) leads some (at-map (mapped_key_of types) m.types.items (left - 1) e read)
         (ap (func.ghosts.eq f) key ∙ same)
 
     pub back : func.ghosts.eq f g ≡ false → Leads (digest_of m.hasher) rs f e.before (length rs) × (e.before < left)
     back other =
-        steps-back (digest_of m.hasher) (newest_of m) rs linked.chained f left (met_of types e) leads some (at-map (met_of types) m.types.items (left - 1) e read)
+        steps-back (digest_of m.hasher) (newest_of m) rs linked.chained f left (mapped_key_of types e) leads some (at-map (mapped_key_of types) m.types.items (left - 1) e read)
         (ap (func.ghosts.eq f) key ∙ other)
 
 pub index-requires : goal.index-requires
 index-requires c =
-    part-below c.args.list.now.types c.index-met.result.now.ty
-    (stands-there c.requires.linked (trampoline_of c.args.func.now) c.loop-left.left c.loop-left.invariant c.loop-left-test.true c.index-met.ensures)
+    part-below c.args.list.now.types c.index-recorded.result.now.ty
+    (stands-there c.requires.linked (trampoline_of c.args.func.now) c.loop-left.left c.loop-left.invariant c.loop-left-test.true c.index-recorded.ensures)
 
 pub unwrap_func-requires : goal.unwrap_func-requires
 unwrap_func-requires c = grind (arith, common_steps, is-function)
 
 pub returns-then-is_mapped : goal.returns-then-is_mapped
 returns-then-is_mapped c =
-    found-is c.requires.linked (trampoline_of c.args.func.now) c.loop-left.left c.loop-left.invariant c.loop-left-test.true c.index-met.ensures c.index.ensures
+    found-is c.requires.linked (trampoline_of c.args.func.now) c.loop-left.left c.loop-left.invariant c.loop-left-test.true c.index-recorded.ensures c.index.ensures
     c.unwrap_func.ensures (sym c.is_mapped.ensures ∙ c.if-is_mapped.true)
 
 pub loop-left-smaller : goal.loop-left-smaller
 loop-left-smaller c =
-    (back c.requires.linked (trampoline_of c.args.func.now) c.loop-left.left c.loop-left.invariant c.loop-left-test.true c.index-met.ensures c.index.ensures
+    (back c.requires.linked (trampoline_of c.args.func.now) c.loop-left.left c.loop-left.invariant c.loop-left-test.true c.index-recorded.ensures c.index.ensures
     c.unwrap_func.ensures (sym c.is_mapped.ensures ∙ c.if-is_mapped.false)).1
 
 pub loop-left-preserved : goal.loop-left-preserved
 loop-left-preserved c =
-    (back c.requires.linked (trampoline_of c.args.func.now) c.loop-left.left c.loop-left.invariant c.loop-left-test.true c.index-met.ensures c.index.ensures
+    (back c.requires.linked (trampoline_of c.args.func.now) c.loop-left.left c.loop-left.invariant c.loop-left-test.true c.index-recorded.ensures c.index.ensures
     c.unwrap_func.ensures (sym c.is_mapped.ensures ∙ c.if-is_mapped.false)).0

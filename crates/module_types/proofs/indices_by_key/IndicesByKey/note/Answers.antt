@@ -6,9 +6,9 @@ use Rattle.entity_map.proofs.PackedLemmas.{unpacked-index}
 use Rattle.entity_map.proofs.Written.{written-within, written-grown}
 use Rattle.wasm_index.specs.Index.{number_of}
 use Rattle.module_types.specs.Builder.{noted}
-use Rattle.module_types.specs.Noted.{noted_at, note_of, notes_of}
+use Rattle.module_types.specs.IndicesByKey.{noted_at, note_of, notes_of}
 use Rattle.module_types.proofs.Holding.{noted-written}
-use Rattle.module_types.proofs.noted.NotedIndices.note.Goals as goal
+use Rattle.module_types.proofs.indices_by_key.IndicesByKey.note.Goals as goal
 
 pub returns-then-place-len : goal.returns-then-place-len
 returns-then-place-len g c =

@@ -6,7 +6,7 @@ ghost use Rattle.wasm_types.specs.declared.func.WasmFuncType.{WasmFuncType};
 ghost use Rattle.wasm_types.specs.Trampolines.{trampoline_of};
 ghost use Rattle.wasm_types.specs.Views.{func_in};
 ghost use Rattle.module_types.specs.TypeParts.{part_at};
-ghost use Rattle.module_types.specs.Met.{digest_of, newest_of, met_at, IsLinked, IsNoted};
+ghost use Rattle.module_types.specs.MappedTypes.{digest_of, newest_of, mapped_at, IsLinked, IsNoted};
 
 use crate::list::ModuleTypes;
 use crate::mapped::is_mapped;
@@ -20,7 +20,7 @@ use wasm_types::WasmFuncType;
 
 /// A recorded function type, by its index in a list of types.
 #[derive(Clone, Copy)]
-pub(crate) struct MetType {
+pub(crate) struct MappedType {
     pub(crate) ty: ModuleInternedTypeIndex,
     /// How many were recorded up to the previous one with the same digest, or 0.
     pub(crate) before: u32,
@@ -29,21 +29,21 @@ pub(crate) struct MetType {
 /// The recorded function types: each by its index in a list of types, so that none is kept twice.
 /// Those of one digest are chained, from the newest on.
 #[derive(Drop)]
-pub(crate) struct MetTypes {
+pub(crate) struct MappedTypes {
     pub(crate) hasher: Seeded,
     /// How many were recorded up to the newest of each digest.
     pub(crate) newest: HashMap<u64, u32, Seeded>,
-    pub(crate) types: Vec<MetType>,
+    pub(crate) types: Vec<MappedType>,
 }
 
-impl MetTypes {
+impl MappedTypes {
     /// No type is recorded. Digests begin from the seed.
-    pub(crate) fn new(alloc: Global, seed: u64) -> MetTypes
+    pub(crate) fn new(alloc: Global, seed: u64) -> MappedTypes
         ensures none { result.types.items ≡ [] }
         ensures linked { (types : List WasmSubType) → IsLinked types result }
     {
         let hasher = Seeded::new(seed);
-        MetTypes {
+        MappedTypes {
             hasher,
             newest: HashMap::with_hasher(alloc, hasher),
             types: Vec::new(alloc),
@@ -69,15 +69,15 @@ impl MetTypes {
     ) -> Option<ModuleInternedTypeIndex>
         requires linked { IsLinked list.now.types self.now }
         requires digest { digest ≡ digest_of self.now.hasher (trampoline_of func.now) }
-        ensures { result ≡ met_at list.now.types self.now (trampoline_of func.now) }
+        ensures { result ≡ mapped_at list.now.types self.now (trampoline_of func.now) }
     {
         let mut left = self.newest.get(&digest).copied().unwrap_or(0);
         while left > 0 {
-            let met = self.types[left as usize - 1];
-            if is_mapped(func, list[met.ty].composite_type.inner.unwrap_func()) {
-                return Some(met.ty);
+            let recorded = self.types[left as usize - 1];
+            if is_mapped(func, list[recorded.ty].composite_type.inner.unwrap_func()) {
+                return Some(recorded.ty);
             }
-            left = met.before;
+            left = recorded.before;
         }
         None
     }
@@ -97,7 +97,7 @@ impl MetTypes {
             return Err(OutOfMemory);
         }
         let before = self.newest.insert(digest, count as u32)?.unwrap_or(0);
-        self.types.push(MetType { ty, before })?;
+        self.types.push(MappedType { ty, before })?;
         Ok(())
     }
 }

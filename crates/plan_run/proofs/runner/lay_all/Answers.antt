@@ -1,5 +1,5 @@
 use Rattle.std.proofs.Common.{◌∙◌}
-use Rattle.plan_run.proofs.whole.lay_all.Goals as goal
+use Rattle.plan_run.proofs.runner.lay_all.Goals as goal
 
 pub lay_memories-requires : goal.lay_memories-requires
 lay_memories-requires c = record {

@@ -4,7 +4,7 @@ use Rattle.std.specs.Prelude.{nat_eq, if◌then◌else◌}
 use Rattle.std.specs.HashMap.{get}
 use Rattle.std.specs.Option.{unwrap_or}
 use Rattle.module_types.proofs.Chaining.{is-noted}
-use Rattle.module_types.proofs.met.MetTypes.note.Goals as goal
+use Rattle.module_types.proofs.mapped_types.MappedTypes.note.Goals as goal
 
 counted : (b : Bool) (n m : ℕ) (o later : Option ℕ) → later ≡ cond b (Some n) o → n ≡ m → unwrap_or later 0 ≡ (if b then m else unwrap_or o 0)
 counted b n m o later e same = grind (arith, cases_Bool)

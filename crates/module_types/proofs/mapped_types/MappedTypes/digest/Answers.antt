@@ -1,8 +1,8 @@
 use Rattle.std.proofs.lemmas.Grind.{common_steps}
 use Rattle.std.proofs.Common.{arith}
-use Rattle.module_types.specs.Met.{digest_of}
+use Rattle.module_types.specs.MappedTypes.{digest_of}
 use Rattle.module_types.proofs.Keys.{same-feed}
-use Rattle.module_types.proofs.met.MetTypes.digest.Goals as goal
+use Rattle.module_types.proofs.mapped_types.MappedTypes.digest.Goals as goal
 
 pub returns : goal.returns
 unfolding digest_of

@@ -2,7 +2,7 @@
 
 ghost use Rattle.std.specs.Prelude.{◌≡◌, slice_index};
 ghost use Rattle.form_types.specs.Keys.{canonical_index};
-ghost use Rattle.form_types.specs.Seen.{ids_of};
+ghost use Rattle.form_types.specs.EarlierTypes.{ids_of};
 ghost use Rattle.form_types.specs.Ids.{id_of};
 ghost use Rattle.form_types.specs.Placed.{place_of};
 
@@ -10,7 +10,7 @@ use wasm_spec::{CoreTypeId, UnpackedIndex};
 
 /// The types before a group: their ids, and how many there are.
 #[derive(Clone, Copy)]
-pub struct Seen<'i> {
+pub struct EarlierTypes<'i> {
     pub ids: &'i [CoreTypeId],
     pub start: u32,
 }
@@ -36,7 +36,7 @@ pub fn place_of(index: UnpackedIndex) -> u32
     }
 }
 
-impl Seen<'_> {
+impl EarlierTypes<'_> {
     /// What an index names: a position in the group, or the id of an earlier type.
     pub fn target(self, index: UnpackedIndex) -> UnpackedIndex
         ensures { result ≡ canonical_index (ids_of self.entry.ids.now) self.entry.start index }
