@@ -7,7 +7,8 @@ ghost use Rattle.form_lists.specs.Views.{lists_of};
 ghost use Rattle.form_typing.specs.Defaults.{defaults as defaults_of_types};
 ghost use Rattle.form_rules.specs.Walked.{AreElementsWalked, IsElementAdded};
 
-use crate::indices::element_is_in_range;
+use crate::indices::{element_is_in_range, names_functions};
+use crate::plain::is_plain_element;
 use crate::references::element_refers;
 use form_data::Element;
 use form_lists::{Lists, walk_of};
@@ -59,6 +60,13 @@ fn with_element(
     requires { defaults.now ≡ defaults_of_types (lists_of lists.now) }
     ensures { IfOk result (λ kept. IsElementAdded (lists_of lists.now) before (element_of element.now) kept) }
 {
+    if is_plain_element(lists, element) {
+        return Ok(ElementsKeep {
+            typed: before.typed,
+            in_range: before.in_range && names_functions(lists, &element.items),
+            refer: before.refer,
+        });
+    }
     let typed = element_is_typed(lists, defaults, element, stack)?;
     Ok(ElementsKeep {
         typed: before.typed && typed,

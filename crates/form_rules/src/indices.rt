@@ -26,7 +26,8 @@ fn names_table(lists: &Lists<'_, '_>, kind: &ElementKind) -> bool
     }
 }
 
-fn names_functions(lists: &Lists<'_, '_>, items: &ElementItems) -> bool
+/// Whether the functions that items name exist.
+pub(crate) fn names_functions(lists: &Lists<'_, '_>, items: &ElementItems) -> bool
     ensures { IsTrue result ↔ NamesFunctions (lists_of lists.now) (items_of items.now) }
 {
     match items {

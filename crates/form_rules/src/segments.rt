@@ -1,12 +1,13 @@
 //! What the rules require of data segments. One walk checks all rules, as for element segments.
 
-ghost use Rattle.std.specs.Prelude.{◌≡◌, ◌↔◌, IsTrue, IfOk};
+ghost use Rattle.std.specs.Prelude.{◌≡◌, ◌↔◌, ◌+◌, IsTrue, IfOk};
 ghost use Rattle.form_data.specs.Views.{segment_of};
 ghost use Rattle.form_lists.specs.Views.{lists_of};
 ghost use Rattle.form_typing.specs.Defaults.{defaults as defaults_of_types};
 ghost use Rattle.form_rules.specs.Walked.{AreSegmentsWalked, IsSegmentAdded};
 
 use crate::indices::names_memory;
+use crate::plain::is_plain_segment;
 use crate::references::data_kind_refers;
 use form_data::DataSegment;
 use form_lists::{Lists, walk_of};
@@ -49,8 +50,14 @@ pub fn walk_segments<'d>(
     Ok(kept)
 }
 
-/// The same with one segment more. More segments than a `usize` counts give an `AllocError`: they
-/// fit in no memory.
+/// One more. More segments than a `usize` counts give an `AllocError`: they fit in no memory.
+fn one_more(count: usize) -> Result<usize, AllocError>
+    ensures { IfOk result (λ more. more ≡ count + 1) }
+{
+    count.checked_add(1).ok_or(AllocError)
+}
+
+/// The same with one segment more.
 fn with_segment(
     lists: &Lists<'_, '_>,
     defaults: &[bool],
@@ -61,7 +68,10 @@ fn with_segment(
     requires { defaults.now ≡ defaults_of_types (lists_of lists.now) }
     ensures { IfOk result (λ kept. IsSegmentAdded (lists_of lists.now) before (segment_of segment.now) kept) }
 {
-    let count = before.count.checked_add(1).ok_or(AllocError)?;
+    let count = one_more(before.count)?;
+    if is_plain_segment(lists, &segment.kind) {
+        return Ok(SegmentsKeep { count, ..before });
+    }
     let typed = segment_is_typed(lists, defaults, segment, stack)?;
     Ok(SegmentsKeep {
         count,
