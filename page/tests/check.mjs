@@ -52,7 +52,7 @@ if (!program) notTried.push("the texts of the program (tools/release or ./transl
 checkBuild(page);
 await checkInNode({ page, root, program, report });
 const chromium = words["no-browser"] ? null : words.chromium ?? process.env.CHROMIUM ?? found("chromium") ?? found("chromium-browser") ?? found("google-chrome");
-if (!chromium) notTried.push("the page in a browser (no Chromium is found)");
+if (!chromium) notTried.push(`the page in a browser${words["no-browser"] ? "" : " (no Chromium is found)"}`);
 else {
   if (words.shots) mkdirSync(words.shots, { recursive: true });
   await checkInBrowser({ page, root, program, report, leave: what => notTried.push(what), chromium, shots: words.shots ?? null });

@@ -157,7 +157,7 @@ async function checkPlaces({ opened, root, told, report }) {
 
 // Each first word of the description of the text has its line in the page's legend.
 async function checkLegend({ opened, root, report }) {
-  const format = readFileSync(join(root, "docs/FORMAT.md"), "utf8"), table = format.slice(format.indexOf("## Lines"), format.indexOf("`./translate generate N`"));
+  const format = readFileSync(join(root, "docs/FORMAT.md"), "utf8"), table = format.slice(format.indexOf("## Lines"), format.indexOf("## The image rule"));
   const words = new Set([...table.matchAll(/^\| (.*?) \|/gm)].flatMap(([, cell]) => [...cell.matchAll(/`([a-z-]+) /g)].map(([, word]) => word)));
   const page = opened(), missing = [...words].filter(word => !page.value("LEGEND")[word]), more = Object.keys(page.value("LEGEND")).filter(word => !words.has(word) && word !== "refused");
   report("drawn: the legend has each first word of the text", () => words.size > 30 && missing.length === 0 && more.length === 0, [...missing, ...more]);
