@@ -1,6 +1,5 @@
 -- Numbers that are sorted, each once.
 use Rattle.std.proofs.Common.{◌≡◌, ℕ, eqb, List, sym, subst}
-use Rattle.std.specs.Prelude.{Contains}
 use Rattle.std.specs.List.{dedup}
 use Rattle.std.specs.List.Sorted.{IsPermutation, IsSorted}
 use Rattle.std.specs.Ordering.{nat_cmp}

@@ -5,15 +5,14 @@ use Rattle.std.proofs.lemmas.List.{length-append, length-map, map-append, map_mo
 use Rattle.std.specs.List.{flat_map}
 use Rattle.wasm_spec.specs.Module.{Expression, Element, Segment}
 use Rattle.segment_tables.specs.declared.expressions.ExpressionRows.{ExpressionRows}
-use Rattle.segment_tables.specs.declared.given.Span.{Span}
-use Rattle.segment_tables.specs.Given.{spans_from}
+use Rattle.plan_tables.specs.Spans.{spans_from}
 use Rattle.segment_tables.specs.Operators.{operator_row}
 use Rattle.segment_tables.specs.Expressions.{HasExpressions}
 use Rattle.segment_tables.specs.declared.elements.ElementRows.{ElementRows}
-use Rattle.segment_tables.specs.declared.given.ValueRow.{ValueRow}
+use Rattle.plan_tables.specs.declared.rows.ValueRow.{ValueRow}
 use Rattle.segment_tables.specs.declared.segment_rows.DataSegmentRow.{DataSegmentRow}
 use Rattle.segment_tables.specs.declared.segment_rows.ElementSegmentRow.{ElementSegmentRow}
-use Rattle.segment_tables.specs.Given.{read_ref_row}
+use Rattle.plan_tables.specs.Bodies.{read_ref_row}
 use Rattle.segment_tables.specs.Elements.{kind_number, table_number, offsets_in, offset_number, item_type, functions_in, expressions_in, element_expressions, element_row, element_rows, HasElements}
 use Rattle.segment_tables.specs.DataSegments.{data_kind_number, memory_number, data_offsets, data_offset_number, data_told, data_rows, data_expressions, HasSegments}
 

@@ -9,7 +9,7 @@ use Rattle.segment_tables.specs.declared.segment_rows.ElementSegmentRow.{Element
 use Rattle.segment_tables.specs.declared.elements.ElementRows.{ElementRows}
 use Rattle.segment_tables.specs.declared.expressions.ExpressionRows.{ExpressionRows}
 use Rattle.segment_tables.specs.Expressions.{HasExpressions}
-use Rattle.segment_tables.specs.Given.{read_ref_row}
+use Rattle.plan_tables.specs.Bodies.{read_ref_row}
 
 abbrev pub kind_number : ElementKind → ℕ
 kind_number PassiveElement = 0

@@ -2,9 +2,9 @@
 use Rattle.std.specs.Prelude.{◌≡◌, List, length, map}
 use Rattle.std.specs.List.{flat_map}
 use Rattle.wasm_spec.specs.Module.{Expression}
-use Rattle.segment_tables.specs.declared.given.ExpressionsRecord.{ExpressionsRecord}
+use Rattle.plan_tables.specs.declared.record.ExpressionsRecord.{ExpressionsRecord}
 use Rattle.segment_tables.specs.declared.expressions.ExpressionRows.{ExpressionRows}
-use Rattle.segment_tables.specs.Given.{spans_from}
+use Rattle.plan_tables.specs.Spans.{spans_from}
 use Rattle.segment_tables.specs.Operators.{operator_row}
 
 -- each expression is a part of the operators, which are end to end

@@ -1,4 +1,3 @@
-pub mod Given
 pub mod Operators
 pub mod Expressions
 pub mod Elements

@@ -1,5 +1,4 @@
 -- Operators of constant expressions as they were read, as rows.
-use Rattle.std.specs.Prelude.{◌≡◌}
 use Rattle.wasm_spec.specs.declared.operators.Operator.{Operator}
 use Rattle.wasm_spec.specs.declared.operators.Operator.TheVariants as plain
 use Rattle.type_data.specs.Names.{FuncName}
@@ -8,9 +7,9 @@ use Rattle.wasm_types.specs.declared.index.EngineOrModuleTypeIndex.TheVariants.{
 use Rattle.wasm_convert.specs.declared.operators.ConstOp.{ConstOp}
 use Rattle.wasm_convert.specs.Conversion.{LookUp}
 use Rattle.wasm_convert.specs.Operators.{const_op_of}
-use Rattle.segment_tables.specs.declared.given.OperatorRow.{OperatorRow}
-use Rattle.segment_tables.specs.Given as rows
-use Rattle.segment_tables.specs.Given.{read_heap_number, read_index_list, read_index_number}
+use Rattle.plan_tables.specs.declared.rows.OperatorRow.{OperatorRow}
+use Rattle.plan_tables.specs.Operators as rows
+use Rattle.plan_tables.specs.Bodies.{read_heap_number, read_index_list, read_index_number}
 
 -- a type for each index: no row shows which
 abbrev pub one_type : LookUp

@@ -1,12 +1,13 @@
 -- The functions to which `ref.func` in a body may refer: those that occur in the module outside of its
 -- functions and its start function (core specification, 3.4.10, modules: the context's `refs`).
-use Rattle.std.specs.Prelude.{◌↔◌, ℕ, ◌<◌, List, [], ◌∷◌, ◌++◌, length, get_or, Contains}
+use Rattle.std.specs.Prelude.{◌↔◌, ℕ, List, [], ◌∷◌, ◌++◌, Contains}
 use Rattle.std.specs.List.{flat_map}
 use Rattle.std.specs.Option.{option_to_list}
 use Rattle.wasm_spec.specs.declared.operators.Operator.{Operator}
 use Rattle.wasm_spec.specs.declared.operators.Operator.TheVariants.{RefFunc}
 use Rattle.wasm_spec.specs.declared.entities.ExternalKind.TheVariants as kind
 use Rattle.wasm_spec.specs.Module.{Expression, TableDef, GlobalDef, Export, ElementItems, Element, Segment, Payload, Tables, Globals, Exports, Elements, Segments, Module}
+use Rattle.module_environ.specs.Escapes.{Ascend}
 use Rattle.segment_tables.specs.Elements.{functions_in, expressions_in, offsets_in}
 use Rattle.segment_tables.specs.DataSegments.{data_offsets}
 use Rattle.wasm_spec.specs.declared.entities.ExternalKind.{ExternalKind}
@@ -53,10 +54,6 @@ section_references _ = []
 
 abbrev pub module_references : Module → List ℕ
 module_references m = flat_map section_references m
-
--- each number is below the next
-abbrev pub Ascend : List ℕ → Type 0
-Ascend ns = (i j : ℕ) → i < j → j < length ns → get_or ns i 0 < get_or ns j 0
 
 -- the numbers of a list, each once and ascending
 pub record Listed (all ns : List ℕ) : Type 0 where

@@ -9,10 +9,10 @@ ghost use Rattle.segment_tables.specs.Expressions.{HasExpressions};
 ghost use Rattle.segment_tables.specs.Elements.{kind_number, table_number, offsets_in, offset_number, item_type, functions_in, expressions_in, element_expressions, HasElements};
 
 use crate::expressions::{ExpressionRows, push_expression, push_expressions};
-use crate::given::{Span, read_ref_row};
 use crate::segment_rows::ElementSegmentRow;
 use entity_map::OutOfMemory;
 use form_data::{ConstExpr, Element, ElementItems, ElementKind, Payload};
+use plan_tables::{Span, read_ref_row};
 use std::alloc::Global;
 use wasm_spec::{AbstractHeapType, HeapType, RefType};
 

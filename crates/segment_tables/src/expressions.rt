@@ -5,10 +5,10 @@ ghost use Rattle.wasm_spec.specs.Module.{Expression};
 ghost use Rattle.form_data.specs.Views.{expression_of};
 ghost use Rattle.segment_tables.specs.Expressions.{HasExpressions, TellsExpressions};
 
-use crate::given::{ExpressionsRecord, OperatorRow, Span};
 use crate::operators::push_operators;
 use entity_map::OutOfMemory;
 use form_data::ConstExpr;
+use plan_tables::{ExpressionsRecord, OperatorRow, Span};
 use std::alloc::Global;
 
 /// The rows of constant expressions, while there are more to come.

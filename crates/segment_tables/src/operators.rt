@@ -4,13 +4,13 @@ ghost use Rattle.std.specs.Prelude.{◌≡◌, ◌++◌, ⊤, map, OnOk};
 ghost use Rattle.wasm_spec.specs.declared.operators.Operator.TheVariants.{RefNull};
 ghost use Rattle.wasm_spec.specs.declared.types.HeapType.{HeapType};
 ghost use Rattle.wasm_convert.specs.Operators.{KnowsOperator};
-ghost use Rattle.segment_tables.specs.Given as rows;
+ghost use Rattle.plan_tables.specs.Operators as rows;
 ghost use Rattle.segment_tables.specs.Operators.{one_type, converted, operator_row};
 
-use crate::given::{
+use entity_map::{EntityRef, OutOfMemory};
+use plan_tables::{
     OperatorRow, operator_row as row_of, read_heap_number, read_index_list, read_index_number,
 };
-use entity_map::{EntityRef, OutOfMemory};
 use wasm_convert::{ConstOp, TypeConvert};
 use wasm_index::ModuleInternedTypeIndex;
 use wasm_spec::{HeapType, Operator, UnpackedIndex};

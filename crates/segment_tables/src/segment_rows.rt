@@ -3,7 +3,7 @@
 //! `embed/generate` makes the structs of C and Rust from this file, as from the rows of
 //! `plan_tables`.
 
-use crate::given::{ExpressionsRecord, Span, ValueRow};
+use plan_tables::{ExpressionsRecord, Span, ValueRow};
 
 /// A data segment of a module: `bobbinazure_data_segment`.
 #[repr(C)]
@@ -13,8 +13,7 @@ pub struct DataSegmentRow<'d> {
     pub kind: u32,
     /// The memory that an active one writes, by its index; 0 of a passive one.
     pub memory: u32,
-    /// The number of the expression in `expressions` that gives the offset of an active one, in
-    /// bytes; 0 of a passive one.
+    /// Which of `expressions` gives the offset of an active one, in bytes; 0 of a passive one.
     pub offset: usize,
     /// Its bytes, in the bytes of the module. They are never freed.
     pub bytes: &'d [u8],
@@ -28,8 +27,7 @@ pub struct ElementSegmentRow {
     pub kind: u32,
     /// The table that an active one writes, by its index; 0 of another one.
     pub table: u32,
-    /// The number of the expression in `expressions` that gives the offset of an active one, in
-    /// cells; 0 of another one.
+    /// Which of `expressions` gives the offset of an active one, in cells; 0 of another one.
     pub offset: usize,
     /// The type of each item, a reference. A type of the module is named by the type section:
     /// `list` is `BOBBINAZURE_OF_SECTION`, and `heap` is `BOBBINAZURE_HEAP_DECLARED`.
@@ -40,8 +38,7 @@ pub struct ElementSegmentRow {
     pub expressions: Span,
 }
 
-/// The segments of a module, and the functions that its bodies may refer to:
-/// `bobbinazure_segment_list`.
+/// The segments of a module, and the functions that its bodies name: `bobbinazure_segment_list`.
 #[repr(C)]
 #[derive(Clone, Copy)]
 pub struct SegmentsRecord<'d> {

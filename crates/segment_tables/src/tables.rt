@@ -1,10 +1,9 @@
 //! The segments of a module.
 
-ghost use Rattle.std.specs.Prelude.{◌^◌, ◌<◌, length, IfOk, IfErr};
+ghost use Rattle.std.specs.Prelude.{IfOk, IfErr};
 ghost use Rattle.wasm_spec.specs.Module.{Module};
-ghost use Rattle.wasm_spec.specs.Grammar.{Spells};
-ghost use Rattle.wasm_spec.specs.Interfaces.{HasNoInterfaceTypes};
 ghost use Rattle.form_data.specs.Views.{module_of};
+ghost use Rattle.module_environ.specs.Readable.{IsReadable};
 ghost use Rattle.segment_tables.specs.Tables.{TellsSegments, TellsSegmentsOf};
 ghost use Rattle.segment_tables.specs.Causes.{HasReadCause, SucceedsOrNoMemory};
 
@@ -48,7 +47,7 @@ pub fn module_segments<'d>(alloc: Global, bytes: &'d [u8]) -> Result<SegmentsRec
     ensures told { IfOk result (TellsSegmentsOf bytes.now) }
     ensures cause { IfErr result (HasReadCause bytes.now) }
     // Bytes that can be read are not refused.
-    ensures complete { length bytes.now < 2 ^ 30 → (m : Module) → Spells bytes.now m → HasNoInterfaceTypes m → SucceedsOrNoMemory result }
+    ensures complete { (m : Module) → IsReadable bytes.now m → SucceedsOrNoMemory result }
 {
     let form = read_module(alloc, bytes)?;
     match segment_tables(alloc, &form) {

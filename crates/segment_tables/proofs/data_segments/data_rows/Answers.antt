@@ -1,4 +1,4 @@
-use Rattle.std.proofs.Common.{◌++◌, [], map, take, ap, sym, subst, refl, arith}
+use Rattle.std.proofs.Common.{map, ap, sym, subst, arith}
 use Rattle.std.proofs.lemmas.List.{append-nil, take_all}
 use Rattle.std.specs.List.{flat_map}
 use Rattle.wasm_spec.specs.Module.{segments_of_section}

@@ -1,4 +1,4 @@
-use Rattle.std.proofs.Common.{map, take, subst, arith}
+use Rattle.std.proofs.Common.{map, subst, arith}
 use Rattle.std.proofs.lemmas.List.{take_all}
 use Rattle.std.specs.List.{flat_map}
 use Rattle.wasm_spec.specs.Module.{elements_of_section}

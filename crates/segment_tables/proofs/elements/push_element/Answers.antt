@@ -3,7 +3,7 @@ use Rattle.std.proofs.lemmas.Grind.{common_steps}
 use Rattle.std.proofs.lemmas.List.{length-append, length-map}
 use Rattle.std.specs.List.{flat_map}
 use Rattle.form_data.specs.Views.{expression_of, element_of}
-use Rattle.segment_tables.specs.Given.{read_ref_row}
+use Rattle.plan_tables.specs.Bodies.{read_ref_row}
 use Rattle.segment_tables.specs.Expressions.{HasExpressions}
 use Rattle.segment_tables.specs.Elements.{offsets_in, functions_in, expressions_in, element_expressions}
 use Rattle.segment_tables.proofs.Rows.{expressions_length, row_is, has_element}
