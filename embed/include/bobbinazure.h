@@ -112,6 +112,13 @@ enum {
     BOBBINAZURE_AT_EXPRESSION = 3   /* another one: its operators are in segment_places or element_places */
 };
 
+/* What a segment of a module is: the field `kind` of a data or an element segment. */
+enum {
+    BOBBINAZURE_PASSIVE_SEGMENT = 0,
+    BOBBINAZURE_ACTIVE_SEGMENT = 1,
+    BOBBINAZURE_DECLARATIVE_SEGMENT = 2 /* an element segment alone */
+};
+
 /* When the startup function must run. */
 enum {
     BOBBINAZURE_STARTUP_NONE = 0,
@@ -129,13 +136,13 @@ enum {
 };
 
 /* Which list of types the index in a value type is of. In a plan it is that of the interned types, in
- * locals of bodies that of the type section. */
+ * locals of bodies and in segments of a module that of the type section. */
 enum {
     BOBBINAZURE_NO_INDEX = 0,
     BOBBINAZURE_OF_ENGINE = 1,
     BOBBINAZURE_OF_MODULE = 2,
     BOBBINAZURE_OF_GROUP = 3,
-    BOBBINAZURE_OF_SECTION = 4,     /* the type section, `declared`: in locals of bodies alone */
+    BOBBINAZURE_OF_SECTION = 4,     /* the type section, `declared`: in locals of bodies and segments alone */
     BOBBINAZURE_OF_IDS = 5          /* types by ids, which no plan has */
 };
 
@@ -172,7 +179,7 @@ enum {
     BOBBINAZURE_HEAP_STRUCT = 16,
     BOBBINAZURE_HEAP_CONCRETE_STRUCT = 17,
     BOBBINAZURE_HEAP_NONE = 18,
-    BOBBINAZURE_HEAP_DECLARED = 19  /* a type of the type section: of the locals of bodies alone */
+    BOBBINAZURE_HEAP_DECLARED = 19  /* a type of the type section: in locals of bodies and segments alone */
 };
 
 /* The kinds of composite types. */
@@ -277,7 +284,7 @@ typedef struct { const uint8_t *at; size_t len; } bobbinazure_bytes;
 /* A list, and how many items it has. */
 #define BOBBINAZURE_LIST(T) struct { const T *at; size_t len; }
 
-/* embed/generate makes what follows, from the records of plan_tables and planner_c. */
+/* embed/generate makes what follows, from the records of plan_tables, segment_tables and planner_c. */
 
 /* What a caller may choose; of a flag 0 is no. */
 typedef struct {
@@ -918,6 +925,48 @@ typedef struct {
     EACH(passive_items.expressions.operators) EACH(bodies) EACH(locals) EACH(local_names) \
     EACH(function_metadata) EACH(metadata_locals)
 
+/* A data segment of a module. */
+typedef struct {
+    /* What it is, from BOBBINAZURE_PASSIVE_SEGMENT on: 0 passive, 1 active. */
+    uint32_t kind;
+    /* The memory that an active one writes, by its index; 0 of a passive one. */
+    uint32_t memory;
+    /* Which of expressions gives the offset of an active one, in bytes; 0 of a passive one. */
+    size_t offset;
+    bobbinazure_bytes bytes; /* Its bytes, in the bytes of the module. They are never freed. */
+} bobbinazure_data_segment;
+
+/* An element segment of a module. */
+typedef struct {
+    /* What it is, from BOBBINAZURE_PASSIVE_SEGMENT on: 0 passive, 1 active, 2 declarative. */
+    uint32_t kind;
+    /* The table that an active one writes, by its index; 0 of another one. */
+    uint32_t table;
+    /* Which of expressions gives the offset of an active one, in cells; 0 of another one. */
+    size_t offset;
+    /* The type of each item, a reference. A type of the module is named by the type section:
+       list is BOBBINAZURE_OF_SECTION, and heap is BOBBINAZURE_HEAP_DECLARED. */
+    bobbinazure_value element;
+    bobbinazure_span functions; /* The items that are functions, a part of functions. */
+    /* The items that are constant expressions, a part of expressions.parts. */
+    bobbinazure_span expressions;
+} bobbinazure_element_segment;
+
+/* The segments of a module, and the functions that its bodies name. */
+typedef struct {
+    BOBBINAZURE_LIST(bobbinazure_data_segment) data_segments; /* The data segments, in order. */
+    /* The element segments, in order. */
+    BOBBINAZURE_LIST(bobbinazure_element_segment) element_segments;
+    /* The items of element segments that are functions, by their indices, end to end. */
+    BOBBINAZURE_LIST(uint32_t) functions;
+    /* The offset and the items of each element segment, and then the offsets of the data
+       segments. A type of the module is named by the type section, as in element. */
+    bobbinazure_expressions expressions;
+    /* The functions that ref.func in a body may name, ascending: those that occur in the module
+       outside of its bodies and its start function. */
+    BOBBINAZURE_LIST(uint32_t) references;
+} bobbinazure_segment_list;
+
 /* The text of a plan, or the line of a refusal. */
 typedef struct {
     bobbinazure_bytes text; /* In UTF-8, without a zero at the end. */
@@ -1192,6 +1241,18 @@ uint32_t bobbinazure_can_elide_bounds_check(const bobbinazure_memory *memory, ui
  * bits may not reach 4294967295 bytes: `memory.grow` answers that number where it fails. */
 uint32_t bobbinazure_memory_allows_growth_to(const bobbinazure_memory *memory, uint64_t size);
 
+/* Gives the data and the element segments of a module as they stand in it, also those that a plan
+ * made images of, and the functions that `ref.func` in a body may name. Rules are not checked. The
+ * list `declared` of the module's plan has the interned type of each type that `segments` names.
+ *
+ * `segments` must come from bobbinazure_segments_init, and bobbinazure_segments_free frees it. The
+ * bytes of data segments are in the module's bytes, which must outlive it.
+ *
+ *   PLANNED        it has the segments
+ *   REFUSED        the bytes are malformed, not supported or too large; it is unchanged
+ *   NO_MEMORY      it is unchanged */
+uint32_t bobbinazure_segments(const uint8_t *bytes, size_t len, bobbinazure_segment_list *segments);
+
 /* The version of the library: 10000 * major + 100 * minor + patch. */
 uint32_t bobbinazure_version(void);
 
@@ -1312,6 +1373,20 @@ static inline bobbinazure_section_list bobbinazure_sections_init(void) {
     return list;
 }
 
+static inline bobbinazure_segment_list bobbinazure_segments_init(void) {
+    static const uint64_t nothing[4] = {0, 0, 0, 0};
+    const void *at = nothing;
+    bobbinazure_segment_list segments;
+    memset(&segments, 0, sizeof segments);
+    memcpy(&segments.data_segments.at, &at, sizeof at);
+    memcpy(&segments.element_segments.at, &at, sizeof at);
+    memcpy(&segments.functions.at, &at, sizeof at);
+    memcpy(&segments.expressions.parts.at, &at, sizeof at);
+    memcpy(&segments.expressions.operators.at, &at, sizeof at);
+    memcpy(&segments.references.at, &at, sizeof at);
+    return segments;
+}
+
 /* Frees what a call filled, and leaves the plan as bobbinazure_plan_init returns it. A plan that no
  * call filled may be freed too. */
 static inline void bobbinazure_plan_free(bobbinazure_plan *plan) {
@@ -1359,6 +1434,16 @@ static inline void bobbinazure_program_free(bobbinazure_program *program) {
 static inline void bobbinazure_sections_free(bobbinazure_section_list *list) {
     if (list->sections.len) free((void *)list->sections.at);
     *list = bobbinazure_sections_init();
+}
+
+static inline void bobbinazure_segments_free(bobbinazure_segment_list *segments) {
+    if (segments->data_segments.len) free((void *)segments->data_segments.at);
+    if (segments->element_segments.len) free((void *)segments->element_segments.at);
+    if (segments->functions.len) free((void *)segments->functions.at);
+    if (segments->expressions.parts.len) free((void *)segments->expressions.parts.at);
+    if (segments->expressions.operators.len) free((void *)segments->expressions.operators.at);
+    if (segments->references.len) free((void *)segments->references.at);
+    *segments = bobbinazure_segments_init();
 }
 
 #ifdef __cplusplus

@@ -422,6 +422,27 @@ BOBBINAZURE_AT(plan, local_names, 1440);
 BOBBINAZURE_AT(plan, function_metadata, 1456);
 BOBBINAZURE_AT(plan, metadata_locals, 1472);
 
+BOBBINAZURE_SIZE(data_segment, 32);
+BOBBINAZURE_AT(data_segment, kind, 0);
+BOBBINAZURE_AT(data_segment, memory, 4);
+BOBBINAZURE_AT(data_segment, offset, 8);
+BOBBINAZURE_AT(data_segment, bytes, 16);
+
+BOBBINAZURE_SIZE(element_segment, 56);
+BOBBINAZURE_AT(element_segment, kind, 0);
+BOBBINAZURE_AT(element_segment, table, 4);
+BOBBINAZURE_AT(element_segment, offset, 8);
+BOBBINAZURE_AT(element_segment, element, 16);
+BOBBINAZURE_AT(element_segment, functions, 24);
+BOBBINAZURE_AT(element_segment, expressions, 40);
+
+BOBBINAZURE_SIZE(segment_list, 96);
+BOBBINAZURE_AT(segment_list, data_segments, 0);
+BOBBINAZURE_AT(segment_list, element_segments, 16);
+BOBBINAZURE_AT(segment_list, functions, 32);
+BOBBINAZURE_AT(segment_list, expressions, 48);
+BOBBINAZURE_AT(segment_list, references, 80);
+
 BOBBINAZURE_SIZE(text, 24);
 BOBBINAZURE_AT(text, text, 0);
 BOBBINAZURE_AT(text, made, 16);

@@ -15,9 +15,9 @@ use init_plan::ModuleTranslation;
 use std::alloc::Global;
 use wasm_spec::{AbstractHeapType, HeapType, RefType, UnpackedIndex, ValType};
 
-// The number of a heap type as it was read, in the order of the converted ones; 19 where it names a
-// type.
-fn read_heap_number(ty: &HeapType) -> u8
+/// The number of a heap type as it was read, in the order of the converted ones; 19 where it names a
+/// type.
+pub fn read_heap_number(ty: &HeapType) -> u8
     ensures { result ≡ read_heap_number ty.now }
 {
     match ty {
@@ -39,9 +39,9 @@ fn read_heap_number(ty: &HeapType) -> u8
     }
 }
 
-// Which list the type that a heap type names is of: 0 none, 3 its group, 4 the type section, 5 a
-// list of types by ids.
-fn read_index_list(ty: &HeapType) -> u8
+/// Which list the type that a heap type names is of: 0 none, 3 its group, 4 the type section, 5 a
+/// list of types by ids.
+pub fn read_index_list(ty: &HeapType) -> u8
     ensures { result ≡ read_index_list ty.now }
 {
     match ty {
@@ -52,7 +52,8 @@ fn read_index_list(ty: &HeapType) -> u8
     }
 }
 
-fn read_index_number(ty: &HeapType) -> u32
+/// The index of the type that a heap type names; 0 where it names none.
+pub fn read_index_number(ty: &HeapType) -> u32
     ensures { result ≡ read_index_number ty.now }
 {
     match ty {
@@ -62,7 +63,8 @@ fn read_index_number(ty: &HeapType) -> u32
     }
 }
 
-fn read_ref_row(ty: RefType) -> ValueRow
+/// A reference type as it was read.
+pub fn read_ref_row(ty: RefType) -> ValueRow
     ensures { result ≡ read_ref_row ty }
 {
     ValueRow {

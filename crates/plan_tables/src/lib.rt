@@ -45,7 +45,9 @@ mod tables;
 mod types;
 mod values;
 
+pub use bodies::{read_heap_number, read_index_list, read_index_number, read_ref_row};
 pub use filling::fill_record;
+pub use operators::operator_row;
 pub use record::{
     BodiesRecord, BodyRow, DebugRecord, ElementItemsRecord, ExportsRecord, ExpressionsRecord,
     FunctionNameRow, FunctionsRecord, GlobalsRecord, ImportsRecord, InternedRecord, ItemsRecord,

@@ -63,7 +63,7 @@ fn list_operand(operands: &Operands) -> u8
 }
 
 /// An operator.
-pub(crate) fn operator_row(operator: &ConstOp) -> OperatorRow
+pub fn operator_row(operator: &ConstOp) -> OperatorRow
     ensures { result ≡ operator_row operator.now }
 {
     let operands = operator.operands();

@@ -32,6 +32,7 @@ mod programs;
 mod refusals;
 mod rules;
 mod sections;
+mod segments;
 mod text;
 mod version;
 
@@ -49,5 +50,6 @@ pub use program_linking::bobbinazure_link_program;
 pub use programs::{LinkedModuleRecord, NamedModule, ProgramAnswerRecord, ProgramRecord};
 pub use rules::{BrokenRuleRecord, bobbinazure_locate_rule};
 pub use sections::{SectionRow, SectionsRecord, bobbinazure_sections};
+pub use segments::bobbinazure_segments;
 pub use text::TextRecord;
 pub use version::bobbinazure_version;

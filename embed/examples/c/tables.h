@@ -24,13 +24,13 @@ static void print_quoted(FILE *out, const uint8_t *at, size_t len) {
 }
 
 static void print_index(FILE *out, uint32_t list, uint32_t index) {
-    static const char *const lists[] = {"", "engine", "module", "recgroup"};
+    static const char *const lists[] = {"", "engine", "module", "recgroup", "section"};
     fprintf(out, "(%s " U32 ")", lists[list], index);
 }
 
 static void print_heap(FILE *out, uint32_t heap, uint32_t list, uint32_t index) {
     static const char *const names[] = {"extern", "noextern", "func", "func", "nofunc", "exn", "exn", "noexn", "cont", "cont", "nocont",
-                                        "any", "eq", "i31", "array", "array", "struct", "struct", "none"};
+                                        "any", "eq", "i31", "array", "array", "struct", "struct", "none", "type"};
     fputs(names[heap], out);
     if (list != BOBBINAZURE_NO_INDEX) {
         fputc(' ', out);
@@ -264,7 +264,7 @@ static void print_sizes(FILE *out, const bobbinazure_plan *plan) {
     fprintf(out, "context " U32 "\n", plan->context.size);
 }
 
-static void print_plan(FILE *out, const bobbinazure_plan *plan) {
+static inline void print_plan(FILE *out, const bobbinazure_plan *plan) {
     print_types(out, plan);
     print_entities(out, plan);
     print_names(out, plan);

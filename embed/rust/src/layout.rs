@@ -420,6 +420,27 @@ laid_out! {
         function_metadata 1456,
         metadata_locals 1472,
     }
+    DataSegment: 32 {
+        kind 0,
+        memory 4,
+        offset 8,
+        bytes 16,
+    }
+    ElementSegment: 56 {
+        kind 0,
+        table 4,
+        offset 8,
+        element 16,
+        functions 24,
+        expressions 40,
+    }
+    SegmentsRecord: 96 {
+        data_segments 0,
+        element_segments 16,
+        functions 32,
+        expressions 48,
+        references 80,
+    }
     Text: 24 {
         text 0,
         made 16,

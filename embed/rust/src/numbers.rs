@@ -119,6 +119,15 @@ pub const AT_GLOBAL: u32 = 2;
 /// another one: its operators are in segment_places or element_places
 pub const AT_EXPRESSION: u32 = 3;
 
+// What a segment of a module is: the field `kind` of a data or an element segment.
+
+/// passive segment
+pub const PASSIVE_SEGMENT: u32 = 0;
+/// active segment
+pub const ACTIVE_SEGMENT: u32 = 1;
+/// an element segment alone
+pub const DECLARATIVE_SEGMENT: u32 = 2;
+
 // When the startup function must run.
 
 /// startup none
@@ -149,7 +158,7 @@ pub const OF_ENGINE: u32 = 1;
 pub const OF_MODULE: u32 = 2;
 /// of group
 pub const OF_GROUP: u32 = 3;
-/// the type section, `declared`: in locals of bodies alone
+/// the type section, `declared`: in locals of bodies and segments alone
 pub const OF_SECTION: u32 = 4;
 /// types by ids, which no plan has
 pub const OF_IDS: u32 = 5;
@@ -213,7 +222,7 @@ pub const HEAP_STRUCT: u32 = 16;
 pub const HEAP_CONCRETE_STRUCT: u32 = 17;
 /// heap none
 pub const HEAP_NONE: u32 = 18;
-/// a type of the type section: of the locals of bodies alone
+/// a type of the type section: in locals of bodies and segments alone
 pub const HEAP_DECLARED: u32 = 19;
 
 // The kinds of composite types.

@@ -238,6 +238,24 @@ impl PlanRecord {
     }
 }
 
+/// The segments of a module, and the functions that its bodies name.
+#[repr(C)]
+#[derive(Default)]
+pub(crate) struct SegmentsRecord {
+    /// The data segments, in order.
+    pub(crate) data_segments: List<DataSegment>,
+    /// The element segments, in order.
+    pub(crate) element_segments: List<ElementSegment>,
+    /// The items of element segments that are functions, by their indices, end to end.
+    pub(crate) functions: List<u32>,
+    /// The offset and the items of each element segment, and then the offsets of the data segments.
+    /// A type of the module is named by the type section, as in `element`.
+    pub(crate) expressions: ExpressionsRecord,
+    /// The functions that `ref.func` in a body may name, ascending: those that occur in the module
+    /// outside of its bodies and its start function.
+    pub(crate) references: List<u32>,
+}
+
 /// The text of a plan, or the line of a refusal.
 #[repr(C)]
 #[derive(Default)]

@@ -791,6 +791,42 @@ pub struct LocalName {
     pub(crate) name: List<u8>,
 }
 
+/// A data segment of a module.
+#[repr(C)]
+#[derive(Default)]
+pub struct DataSegment {
+    /// What it is, from [`numbers::PASSIVE_SEGMENT`](crate::numbers::PASSIVE_SEGMENT) on: 0
+    /// passive, 1 active.
+    pub kind: u32,
+    /// The memory that an active one writes, by its index; 0 of a passive one.
+    pub memory: u32,
+    /// Which of `expressions` gives the offset of an active one, in bytes; 0 of a passive one.
+    pub offset: usize,
+    /// Its bytes, in the bytes of the module. They are never freed.
+    pub(crate) bytes: List<u8>,
+}
+
+/// An element segment of a module.
+#[repr(C)]
+#[derive(Clone, Copy, Debug, PartialEq, Eq, Hash, Default)]
+pub struct ElementSegment {
+    /// What it is, from [`numbers::PASSIVE_SEGMENT`](crate::numbers::PASSIVE_SEGMENT) on: 0
+    /// passive, 1 active, 2 declarative.
+    pub kind: u32,
+    /// The table that an active one writes, by its index; 0 of another one.
+    pub table: u32,
+    /// Which of `expressions` gives the offset of an active one, in cells; 0 of another one.
+    pub offset: usize,
+    /// The type of each item, a reference. A type of the module is named by the type section:
+    /// `list` is [`numbers::OF_SECTION`](crate::numbers::OF_SECTION), and `heap` is
+    /// [`numbers::HEAP_DECLARED`](crate::numbers::HEAP_DECLARED).
+    pub element: Value,
+    /// The items that are functions, a part of `functions`.
+    pub functions: Span,
+    /// The items that are constant expressions, a part of `expressions.parts`.
+    pub expressions: Span,
+}
+
 /// Where and why a module is malformed or not supported. Offsets count the bytes of the module,
 /// from 0 on.
 #[repr(C)]

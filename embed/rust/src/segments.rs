@@ -111,8 +111,8 @@ impl Items<'_> {
 /// ```
 #[derive(Clone, Copy, Debug, PartialEq, Eq, Hash)]
 pub struct Expressions<'p> {
-    parts: &'p [Span],
-    operators: &'p [Operator],
+    pub(crate) parts: &'p [Span],
+    pub(crate) operators: &'p [Operator],
 }
 
 impl<'p> Expressions<'p> {

@@ -97,6 +97,8 @@ pub enum HeapType {
     ConcreteStruct(TypeIndex),
     /// No value of the module.
     None,
+    /// A type of the type section, by its index: of [`ModuleSegments`](crate::ModuleSegments) alone.
+    Declared(u32),
 }
 
 impl HeapType {
@@ -121,6 +123,7 @@ impl HeapType {
             (14 | 15, _) => HeapType::Array,
             (17, Some(ty)) => HeapType::ConcreteStruct(ty),
             (16 | 17, _) => HeapType::Struct,
+            (19, _) => HeapType::Declared(index),
             _ => HeapType::None,
         }
     }
@@ -148,6 +151,7 @@ impl fmt::Display for HeapType {
             HeapType::Struct => f.write_str("struct"),
             HeapType::ConcreteStruct(ty) => write!(f, "struct {ty}"),
             HeapType::None => f.write_str("none"),
+            HeapType::Declared(index) => write!(f, "(declared {index})"),
         }
     }
 }
