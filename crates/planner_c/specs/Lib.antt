@@ -2,6 +2,7 @@ pub mod Calls
 pub mod Excess
 pub mod Links
 pub mod Members
+pub mod Names
 pub mod Places
 pub mod Programs
 pub mod Refusals

@@ -21,6 +21,7 @@
 mod excess;
 mod linking;
 mod links;
+mod names;
 mod options;
 mod places;
 mod planning;
@@ -37,6 +38,7 @@ mod version;
 pub use excess::{ExcessRecord, bobbinazure_locate_excess};
 pub use linking::bobbinazure_link;
 pub use links::{ImportAnswerRecord, LinkRecord};
+pub use names::{NameEntryRow, NameMapsRecord, bobbinazure_names};
 pub use options::PlanOptions;
 pub use places::{PlaceRecord, bobbinazure_locate};
 pub use planning::{bobbinazure_make_plan, bobbinazure_make_plan_and_text, bobbinazure_make_text};
