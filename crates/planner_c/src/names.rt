@@ -38,6 +38,7 @@ pub struct NameMapsRecord<'d> {
 /// `bobbinazure_names`. Answers 0 where the record has them, and 5 where there is no memory and the
 /// record is as it was.
 #[unsafe(no_mangle)]
+#[tactic(auto, using(crate::proofs::NameRows::rows_of))]
 pub extern "C" fn bobbinazure_names<'d>(
     alloc: Global,
     bytes: &'d [u8],
