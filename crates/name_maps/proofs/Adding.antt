@@ -1,10 +1,9 @@
 -- What a loop adds, one element after another up to a fault.
-use Rattle.std.proofs.Common.{◌≡◌, ℕ, ◌-◌, ◌+◌, ◌<◌, ◌≤◌, List, [], ◌∷◌, ◌++◌, map, Option, Some, None, refl, sym, ap, ◌∙◌, append_assoc, arith}
-use Rattle.std.specs.List.{flat_map}
+use Rattle.std.proofs.Common.{◌≡◌, ℕ, ◌-◌, ◌+◌, ◌<◌, ◌≤◌, List, [], ◌∷◌, ◌++◌, map, Option, Some, None, sym, ap, ◌∙◌, append_assoc, arith}
 use Rattle.std.proofs.lemmas.List.{append-nil, map-append, flat_map_more}
 use Rattle.form_reader.specs.ReadingNumbers.{unsigned_at}
 use Rattle.custom_sections.specs.Reading.{taken}
-use Rattle.custom_sections.specs.NameReading.{Partly, list_of, in_front, elements_before, vector_before}
+use Rattle.custom_sections.specs.NameReading.{Partly, in_front, elements_before, vector_before}
 use Rattle.custom_sections.proofs.Before as before
 use Rattle.custom_sections.proofs.Before.{still, ended}
 use Rattle.name_maps.specs.declared.entry.NameEntry.{NameEntry}

@@ -13,7 +13,7 @@ use Rattle.form_reader.specs.SectionRows.{name_agrees}
 use Rattle.custom_sections.specs.Reading.{taken}
 use Rattle.custom_sections.specs.NameGrammar.{naming, name_map, local_naming}
 use Rattle.custom_sections.specs.NameReading.{Partly, elements_before, naming_at, naming_before, names_before, one_or_none, locals_before, locals_behind, of_function, vector_before, is_filled, sized_subsection_at}
-use Rattle.custom_sections.specs.CutNames.{otherwise, tells_nothing, elements_told, vector_told, namings_told, cut_local_naming}
+use Rattle.custom_sections.specs.CutNames.{tells_nothing, elements_told, vector_told, namings_told, cut_local_naming}
 use Rattle.custom_sections.proofs.NameSpellings.{made, ReadsAgain, vector_again, naming_agrees, naming_again, local_again, sized_again}
 use Rattle.custom_sections.proofs.OnlyTold.{Only, only_all, only_made, only_is, Whole, Cut, front_only, cut_only, number_at, number_again, elements_only, vector_only, vector_spelled}
 use Rattle.name_maps.specs.Entries.{Entry, map_entries, indirect_entries, module_entry, all_entries}

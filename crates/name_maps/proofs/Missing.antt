@@ -1,6 +1,6 @@
 -- Parts that were not read.
-use Rattle.std.proofs.Common.{◌≡◌, None, Err, Result, refl, sym, ap}
-use Rattle.form_reader.specs.Reading.{Fault, Bad, Stops, Fails}
+use Rattle.std.proofs.Common.{◌≡◌, None, Result, refl, sym, ap}
+use Rattle.form_reader.specs.Reading.{Fault, Fails}
 use Rattle.form_reader.specs.declared.error.ReadError.{ReadError}
 use Rattle.form_reader.specs.declared.error.ReadError.TheVariants as errors
 use Rattle.custom_sections.specs.Reading.{taken}

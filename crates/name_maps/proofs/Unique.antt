@@ -1,5 +1,5 @@
 -- The name sections of an input tell one list of entries.
-use Rattle.std.proofs.Common.{◌≡◌, ℕ, ◌+◌, ◌<◌, ◌≤◌, List, [], ◌∷◌, ◌++◌, length, get_or, take, drop, Bool, true, false, cond, Option, Some, None, refl, sym, ap, subst, ◌∙◌, append_assoc, arith, inl, inr}
+use Rattle.std.proofs.Common.{◌≡◌, ℕ, ◌+◌, ◌<◌, ◌≤◌, List, [], ◌∷◌, ◌++◌, length, get_or, take, drop, Bool, true, false, cond, Option, Some, None, refl, sym, ap, subst, ◌∙◌, arith, inl, inr}
 use Rattle.std.specs.Prelude.{All, codes}
 use Rattle.std.specs.List.{flat_map}
 use Rattle.std.specs.Str.{bytes_eq}
@@ -13,7 +13,7 @@ use Rattle.form_reader.specs.SectionRows.{name_agrees}
 use Rattle.custom_sections.specs.CutNames.{tells_nothing}
 use Rattle.custom_sections.proofs.OnlyTold.{Only, only_all}
 use Rattle.refusal_place.specs.declared.section_list.SectionPlace.{SectionPlace}
-use Rattle.refusal_place.specs.SectionList.{AreSections, HasName, IsSection, IsSectionList, ListsAll, name_of}
+use Rattle.refusal_place.specs.SectionList.{AreSections, HasName, IsSectionList, ListsAll, name_of}
 use Rattle.refusal_place.proofs.SectionsComplete.{same_section}
 use Rattle.name_maps.specs.Entries.{Entry}
 use Rattle.name_maps.specs.NameMaps.{name_section}

@@ -1,5 +1,5 @@
 -- The worked examples, read.
-use Rattle.std.proofs.Common.{◌≡◌, ℕ, suc, ◌<◌, List, [], ◌∷◌, ◌++◌, take, drop, true, false, Option, Some, None, Result, Ok, refl, sym, ap, subst, ◌∙◌, lit<, arith}
+use Rattle.std.proofs.Common.{◌≡◌, ℕ, suc, List, [], ◌∷◌, ◌++◌, take, drop, true, Option, Some, Result, Ok, refl, sym, ap, subst, ◌∙◌, lit<, arith}
 use Rattle.std.specs.Prelude.{codes}
 use Rattle.std.specs.Str.{is_utf8, IsAscii}
 use Rattle.std.proofs.lemmas.Str.{IsUtf8-from_ascii, is_utf8-from_IsUtf8}
@@ -12,13 +12,13 @@ use Rattle.custom_sections.specs.CutNames.{tells_nothing}
 use Rattle.custom_sections.specs.NameReading.{elements_before, vector_before, naming_at, sized_subsection_at}
 use Rattle.custom_sections.proofs.WorkedNames.{one_char}
 use Rattle.refusal_place.specs.declared.section_list.SectionPlace.{SectionPlace}
-use Rattle.refusal_place.specs.SectionList.{fields_of, name_of}
+use Rattle.refusal_place.specs.SectionList.{fields_of}
 use Rattle.name_maps.specs.Entries.{Entry}
 use Rattle.name_maps.specs.NameMaps.{subsections_told, name_section}
-use Rattle.name_maps.specs.Told.{contents_of, is_named, SectionsTell}
+use Rattle.name_maps.specs.Told.{is_named, SectionsTell}
 use Rattle.name_maps.specs.Reading.{left_of, contents_read, module_read, subsection_before, subsections_before}
 use Rattle.name_maps.specs.Worked.{cut_globals, first_global, cut_labels, first_label, skipped_first, of_module, named_bytes, row_with}
-use Rattle.name_maps.proofs.AsRead.{subsections_only, section_only}
+use Rattle.name_maps.proofs.AsRead.{subsections_only}
 
 globals_read : subsections_before 8 cut_globals ≡ first_global ∷ []
 unfolding whole raw_bytes_at unsigned_at found_at counted_bytes_at name_at elements_before vector_before naming_at sized_subsection_at contents_read

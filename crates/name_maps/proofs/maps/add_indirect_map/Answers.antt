@@ -1,4 +1,4 @@
-use Rattle.std.proofs.Common.{◌≡◌, ℕ, ◌-◌, ◌+◌, List, map, Some, None, refl, sym, subst, ◌∙◌, arith}
+use Rattle.std.proofs.Common.{ℕ, ◌-◌, ◌+◌, List, map, Some, None, refl, sym, subst, ◌∙◌, arith}
 use Rattle.custom_sections.specs.NameReading.{names_before, locals_before, vector_before}
 use Rattle.custom_sections.proofs.Before.{locals_none, local_step}
 use Rattle.name_maps.specs.Entries.{Entry, entry_of, entry_in, indirect_entries}

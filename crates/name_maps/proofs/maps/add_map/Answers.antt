@@ -1,4 +1,4 @@
-use Rattle.std.proofs.Common.{◌≡◌, ℕ, ◌-◌, ◌+◌, List, [], ◌∷◌, map, Option, refl, sym, subst, arith}
+use Rattle.std.proofs.Common.{ℕ, ◌-◌, ◌+◌, List, [], ◌∷◌, map, Option, refl, sym, subst, arith}
 use Rattle.custom_sections.specs.NameReading.{naming_before, names_before}
 use Rattle.custom_sections.proofs.Before.{naming_is, naming_none}
 use Rattle.name_maps.specs.Entries.{Entry, entry_of, entry_in}

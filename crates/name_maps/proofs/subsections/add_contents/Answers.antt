@@ -1,4 +1,4 @@
-use Rattle.std.proofs.Common.{map, false, sym, ◌∙◌, ap, arith}
+use Rattle.std.proofs.Common.{map, false, sym, ◌∙◌, arith}
 use Rattle.name_maps.specs.Entries.{entry_of, module_entry}
 use Rattle.name_maps.specs.Reading.{contents_read}
 use Rattle.name_maps.proofs.Adding.{entry_pushed}

@@ -1,4 +1,4 @@
-use Rattle.std.proofs.Common.{◌≡◌, ◌-◌, ◌+◌, List, map, true, false, refl, sym, subst, ◌∙◌, arith}
+use Rattle.std.proofs.Common.{◌-◌, ◌+◌, List, map, true, false, refl, sym, subst, ◌∙◌}
 use Rattle.custom_sections.specs.NameReading.{elements_before}
 use Rattle.name_maps.specs.Entries.{Entry, entry_of, all_entries}
 use Rattle.name_maps.specs.Reading.{contents_read, subsection_before}
