@@ -95,6 +95,22 @@ enum {
     BOBBINAZURE_IN_SEGMENTS = 13
 };
 
+/* What a name names: the field `subsection`, an id of the name section. */
+enum {
+    BOBBINAZURE_NAME_MODULE = 0,   /* the module */
+    BOBBINAZURE_NAME_FUNCTION = 1, /* the function `index` */
+    BOBBINAZURE_NAME_LOCAL = 2,    /* the local `inner` of the function `index` */
+    BOBBINAZURE_NAME_LABEL = 3,    /* the label `inner` of the function `index` */
+    BOBBINAZURE_NAME_TYPE = 4,     /* the type `index` */
+    BOBBINAZURE_NAME_TABLE = 5,    /* the table `index` */
+    BOBBINAZURE_NAME_MEMORY = 6,   /* the memory `index` */
+    BOBBINAZURE_NAME_GLOBAL = 7,   /* the global `index` */
+    BOBBINAZURE_NAME_ELEMENT = 8,  /* the element segment `index` */
+    BOBBINAZURE_NAME_DATA = 9,     /* the data segment `index` */
+    BOBBINAZURE_NAME_FIELD = 10,   /* the field `inner` of the type `index` */
+    BOBBINAZURE_NAME_TAG = 11      /* the tag `index` */
+};
+
 /* What makes a module too large: the field `kind`. */
 enum {
     BOBBINAZURE_EXCESS_INPUT = 1,     /* the module has 2^30 bytes or more */
@@ -1103,6 +1119,24 @@ typedef struct {
     uint32_t made;
 } bobbinazure_excess;
 
+/* A name, and what it names. */
+typedef struct {
+    uint32_t subsection; /* What is named, as BOBBINAZURE_NAME_GLOBAL. */
+    /* Its index; 0 of the module. Of a local or a label that of its function, of a field that of
+       its type. */
+    uint32_t index;
+    uint32_t has_inner;  /* Whether it is a local, a label or a field. */
+    uint32_t inner;      /* The index of the local, the label or the field; else 0. */
+    /* The name, which is UTF-8, in the bytes of the module. It is never freed. */
+    bobbinazure_bytes name;
+} bobbinazure_name_entry;
+
+/* The names that a module gives. */
+typedef struct {
+    /* In the order of the bytes. Of several for one index, the last one counts. */
+    BOBBINAZURE_LIST(bobbinazure_name_entry) entries;
+} bobbinazure_name_list;
+
 /* A section of a module. Offsets count the bytes of the module, from 0 on. */
 typedef struct {
     uint32_t id;       /* The id; no section of a module has one above 13. */
@@ -1214,6 +1248,18 @@ uint32_t bobbinazure_locate_rule(const uint8_t *bytes, size_t len, bobbinazure_b
  *   WRONG_OPTIONS  it is unchanged */
 uint32_t bobbinazure_locate_excess(const uint8_t *bytes, size_t len, const bobbinazure_options *options,
                                    bobbinazure_excess *excess);
+
+/* Lists the names that the bytes give to functions, locals, labels, types, tables, memories, globals,
+ * segments, fields, tags and the module, in all sections called `name`. The sections are those of
+ * bobbinazure_sections, also where the bytes are no module. Where such a section has a fault, the
+ * names before the fault are listed. Nothing checks an index.
+ *
+ * `list` must come from bobbinazure_names_init, and bobbinazure_names_free frees it. The names are
+ * in the bytes, which must outlive the list.
+ *
+ *   PLANNED        it has the names
+ *   NO_MEMORY      it is unchanged */
+uint32_t bobbinazure_names(const uint8_t *bytes, size_t len, bobbinazure_name_list *list);
 
 /* Lists the sections of the bytes, also where they are no module: none where the header is wrong,
  * and where there are 2^30 bytes or more.
@@ -1364,6 +1410,15 @@ static inline bobbinazure_program bobbinazure_program_init(void) {
     return program;
 }
 
+static inline bobbinazure_name_list bobbinazure_names_init(void) {
+    static const uint64_t nothing[4] = {0, 0, 0, 0};
+    const void *at = nothing;
+    bobbinazure_name_list list;
+    memset(&list, 0, sizeof list);
+    memcpy(&list.entries.at, &at, sizeof at);
+    return list;
+}
+
 static inline bobbinazure_section_list bobbinazure_sections_init(void) {
     static const uint64_t nothing[4] = {0, 0, 0, 0};
     const void *at = nothing;
@@ -1429,6 +1484,11 @@ static inline void bobbinazure_program_free(bobbinazure_program *program) {
     if (program->types.len) free((void *)program->types.at);
     if (program->answers.len) free((void *)program->answers.at);
     *program = bobbinazure_program_init();
+}
+
+static inline void bobbinazure_names_free(bobbinazure_name_list *list) {
+    if (list->entries.len) free((void *)list->entries.at);
+    *list = bobbinazure_names_init();
 }
 
 static inline void bobbinazure_sections_free(bobbinazure_section_list *list) {

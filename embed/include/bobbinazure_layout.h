@@ -514,6 +514,16 @@ BOBBINAZURE_AT(excess, byte, 16);
 BOBBINAZURE_AT(excess, sentence, 24);
 BOBBINAZURE_AT(excess, made, 40);
 
+BOBBINAZURE_SIZE(name_entry, 32);
+BOBBINAZURE_AT(name_entry, subsection, 0);
+BOBBINAZURE_AT(name_entry, index, 4);
+BOBBINAZURE_AT(name_entry, has_inner, 8);
+BOBBINAZURE_AT(name_entry, inner, 12);
+BOBBINAZURE_AT(name_entry, name, 16);
+
+BOBBINAZURE_SIZE(name_list, 16);
+BOBBINAZURE_AT(name_list, entries, 0);
+
 BOBBINAZURE_SIZE(section, 40);
 BOBBINAZURE_AT(section, id, 0);
 BOBBINAZURE_AT(section, start, 4);

@@ -3,7 +3,7 @@
 //! `maps` and `memories` test `entity_map` and `paged_memory`. `types`, `visits` and `conversions`
 //! test `wasm_types`, `wasm_trace` and `wasm_convert`; `records`, `groups` and `builders` test
 //! `wasm_module` and `module_types`; `images` tests `memory_images`; `objects`, `structs` and
-//! `contexts` test `gc_layout`, `vm_structs` and `vm_offsets`.
+//! `contexts` test `gc_layout`, `vm_structs` and `vm_offsets`; `names` tests `name_maps`.
 #![tactic(auto)]
 
 #[cfg(test)]
@@ -20,6 +20,8 @@ mod images;
 mod maps;
 #[cfg(test)]
 mod memories;
+#[cfg(test)]
+mod names;
 #[cfg(test)]
 mod objects;
 #[cfg(test)]

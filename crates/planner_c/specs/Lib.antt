@@ -3,6 +3,7 @@ pub mod Excess
 pub mod Links
 pub mod MemoryCalls
 pub mod Members
+pub mod Names
 pub mod Places
 pub mod Programs
 pub mod Refusals

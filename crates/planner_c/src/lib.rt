@@ -22,6 +22,7 @@ mod excess;
 mod linking;
 mod links;
 mod memory_calls;
+mod names;
 mod options;
 mod places;
 mod planning;
@@ -43,6 +44,7 @@ pub use memory_calls::{
     bobbinazure_can_elide_bounds_check, bobbinazure_memory_allows_growth_to,
     bobbinazure_memory_may_move,
 };
+pub use names::{NameEntryRow, NameMapsRecord, bobbinazure_names};
 pub use options::PlanOptions;
 pub use places::{PlaceRecord, bobbinazure_locate};
 pub use planning::{bobbinazure_make_plan, bobbinazure_make_plan_and_text, bobbinazure_make_text};

@@ -512,6 +512,16 @@ laid_out! {
         sentence 24,
         made 40,
     }
+    NameEntry: 32 {
+        subsection 0,
+        index 4,
+        has_inner 8,
+        inner 12,
+        name 16,
+    }
+    NameMapsRecord: 16 {
+        entries 0,
+    }
     Section: 40 {
         id 0,
         start 4,

@@ -95,6 +95,33 @@ pub const IN_BODIES: u32 = 12;
 /// in segments
 pub const IN_SEGMENTS: u32 = 13;
 
+// What a name names: the field `subsection`, an id of the name section.
+
+/// the module
+pub const NAME_MODULE: u32 = 0;
+/// the function `index`
+pub const NAME_FUNCTION: u32 = 1;
+/// the local `inner` of the function `index`
+pub const NAME_LOCAL: u32 = 2;
+/// the label `inner` of the function `index`
+pub const NAME_LABEL: u32 = 3;
+/// the type `index`
+pub const NAME_TYPE: u32 = 4;
+/// the table `index`
+pub const NAME_TABLE: u32 = 5;
+/// the memory `index`
+pub const NAME_MEMORY: u32 = 6;
+/// the global `index`
+pub const NAME_GLOBAL: u32 = 7;
+/// the element segment `index`
+pub const NAME_ELEMENT: u32 = 8;
+/// the data segment `index`
+pub const NAME_DATA: u32 = 9;
+/// the field `inner` of the type `index`
+pub const NAME_FIELD: u32 = 10;
+/// the tag `index`
+pub const NAME_TAG: u32 = 11;
+
 // What makes a module too large: the field `kind`.
 
 /// the module has 2^30 bytes or more

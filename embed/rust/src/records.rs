@@ -359,6 +359,14 @@ pub(crate) struct ProgramRecord {
     pub(crate) answers: List<ProgramAnswer>,
 }
 
+/// The names that a module gives.
+#[repr(C)]
+#[derive(Default)]
+pub(crate) struct NameMapsRecord {
+    /// In the order of the bytes. Of several for one index, the last one counts.
+    pub(crate) entries: List<NameEntry>,
+}
+
 /// The sections of a module.
 #[repr(C)]
 #[derive(Default)]

@@ -898,6 +898,23 @@ pub struct Excess {
     pub made: u32,
 }
 
+/// A name, and what it names.
+#[repr(C)]
+#[derive(Default)]
+pub struct NameEntry {
+    /// What is named, as [`numbers::NAME_GLOBAL`](crate::numbers::NAME_GLOBAL).
+    pub subsection: u32,
+    /// Its index; 0 of the module. Of a local or a label that of its function, of a field that of
+    /// its type.
+    pub index: u32,
+    /// Whether it is a local, a label or a field.
+    pub has_inner: u32,
+    /// The index of the local, the label or the field; else 0.
+    pub inner: u32,
+    /// The name, which is UTF-8, in the bytes of the module. It is never freed.
+    pub(crate) name: List<u8>,
+}
+
 /// A section of a module. Offsets count the bytes of the module, from 0 on.
 #[repr(C)]
 #[derive(Default)]

@@ -1,0 +1,5 @@
+pub mod Entries
+pub mod NameMaps
+pub mod Told
+pub mod Reading
+pub mod Worked
