@@ -1,6 +1,6 @@
 //! Calls in several threads do not meet: each thread has the answers that one thread has.
 
-use bobbinazure::{Options, Plan, link, locate, locate_rule, sections, text};
+use bobbinazure::{Options, Plan, link, locate, locate_rule, names, sections, text};
 use std::thread;
 
 const THREADS: usize = 8;
@@ -12,7 +12,7 @@ fn example(name: &str) -> Vec<u8> {
 
 /// What every call says of these bytes.
 fn told(bytes: &[u8], options: &Options) -> String {
-    let places = (locate(bytes), locate_rule(bytes), sections(bytes));
+    let places = (locate(bytes), locate_rule(bytes), sections(bytes), names(bytes));
     format!("{:?} {places:?} {:?}", text(bytes, options), link(bytes, bytes, "env", options))
 }
 
