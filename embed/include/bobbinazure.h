@@ -318,7 +318,8 @@ typedef struct {
     uint8_t pointer;      /* The bytes of a pointer of the target: 4 or 8. */
     uint8_t collector;    /* How objects are collected: 0 by counts (drc), 1 not at all (null). */
     uint64_t page_size;   /* The page size of images, in bytes: a power of two. */
-    /* The size from which on an image must be more than half full of data, in bytes. */
+    /* Data of this extent or more, in bytes, become an image only where they fill more than half
+       of it. */
     uint64_t max_image;
 } bobbinazure_options;
 
@@ -842,14 +843,17 @@ typedef struct {
     BOBBINAZURE_LIST(bobbinazure_table) tables;
     BOBBINAZURE_LIST(bobbinazure_global) globals;
     BOBBINAZURE_LIST(bobbinazure_tag) tags;
-    /* The runtime data: images, and the bytes of segments. */
+    /* The runtime data: images or the bytes of active segments, then those of passive ones. */
     BOBBINAZURE_LIST(bobbinazure_runtime) runtime;
-    /* The range of each runtime data; the ranges are end to end from 0. */
+    /* The range of each runtime data; the ranges are end to end from 0. Images have whole pages,
+       so each of their ranges begins at a multiple of data_align. */
     BOBBINAZURE_LIST(bobbinazure_range) runtime_ranges;
-    BOBBINAZURE_LIST(bobbinazure_image) images;                 /* The images of memories. */
-    /* The data segments that remain to be written, in order; the images, where there are some. */
+    /* The images of memories, by ascending memory. */
+    BOBBINAZURE_LIST(bobbinazure_image) images;
+    /* What startup writes to memories, in order: data segments, or, where images are made, each
+       of the images. An engine leaves out an image that it maps. */
     BOBBINAZURE_LIST(bobbinazure_segment) segments;
-    /* The passive data segments that keep their bytes. */
+    /* The passive data segments that keep their bytes, by ascending segment. */
     BOBBINAZURE_LIST(bobbinazure_passive) passive;
     /* The image of each defined table, a part of the next list. */
     BOBBINAZURE_LIST(bobbinazure_span) table_images;
@@ -891,7 +895,7 @@ typedef struct {
     BOBBINAZURE_LIST(uint8_t) export_names;
     /* The module's name, if it has one, a part of module_text. */
     BOBBINAZURE_LIST(bobbinazure_span) module_names;
-    /* The layouts of the objects of interned types that have some. */
+    /* The layouts of the objects of interned types that have some, by ascending type. */
     BOBBINAZURE_LIST(bobbinazure_layout) layouts;
     /* The fields of layouts, end to end. */
     BOBBINAZURE_LIST(bobbinazure_layout_field) layout_fields;
@@ -1073,8 +1077,8 @@ typedef struct {
     /* Where the wrong entry or part begins; the length of the module where it ends inside its
        header or a section. */
     uint32_t byte;
-    /* How many bytes decide the refusal, whatever follows them; BOBBINAZURE_NONE where the
-       module ends too early. */
+    /* How many bytes decide that the module is refused, whatever follows them; with other bytes
+       behind them the cause may differ. BOBBINAZURE_NONE where the module ends too early. */
     uint32_t decided;
     uint32_t fault;             /* What is wrong: a number from BOBBINAZURE_FAULT_HEADER on. */
     bobbinazure_bytes sentence; /* A sentence for people, in UTF-8, without a zero at the end. */

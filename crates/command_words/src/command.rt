@@ -17,7 +17,8 @@ pub struct Command {
     pub tunables: Tunables,
     /// The page size of images, in bytes: a power of two.
     pub page_size: u64,
-    /// The size from which on an image must be half full of data, in bytes.
+    /// Data of this extent or more, in bytes, become an image only where they fill more than half of
+    /// it.
     pub max_image: u64,
     /// The size of a pointer of the target, in bytes: 4 or 8.
     pub ptr: u8,

@@ -66,15 +66,17 @@ pub struct KindsRecord<'d> {
 #[repr(C)]
 #[derive(Clone, Copy)]
 pub struct MemoriesRecord<'d> {
-    /// The runtime data: images, and the bytes of segments.
+    /// The runtime data: images or the bytes of active segments, then those of passive ones.
     pub runtime: &'d [RuntimeRow<'d>],
-    /// The range of each runtime data; the ranges are end to end from 0.
+    /// The range of each runtime data; the ranges are end to end from 0. Images have whole pages, so
+    /// each of their ranges begins at a multiple of `data_align`.
     pub runtime_ranges: &'d [NumberRange],
-    /// The images of memories.
+    /// The images of memories, by ascending memory.
     pub images: &'d [ImageRow],
-    /// The data segments that remain to be written, in order; the images, where there are some.
+    /// What startup writes to memories, in order: data segments, or, where images are made, each of
+    /// the images. An engine leaves out an image that it maps.
     pub segments: &'d [SegmentRow],
-    /// The passive data segments that keep their bytes.
+    /// The passive data segments that keep their bytes, by ascending segment.
     pub passive: &'d [PassiveRow],
 }
 
@@ -233,7 +235,7 @@ pub struct ExportsRecord<'d> {
 #[repr(C)]
 #[derive(Clone, Copy)]
 pub struct LayoutsRecord<'d> {
-    /// The layouts of the objects of interned types that have some: `layouts`.
+    /// The layouts of the objects of interned types that have some, by ascending type: `layouts`.
     pub rows: &'d [LayoutRow],
     /// The fields of layouts, end to end: `layout_fields`.
     pub fields: &'d [LayoutFieldRow],

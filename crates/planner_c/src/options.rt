@@ -32,7 +32,8 @@ pub struct PlanOptions {
     pub collector: u8,
     /// The page size of images, in bytes: a power of two.
     pub page_size: u64,
-    /// The size from which on an image must be more than half full of data, in bytes.
+    /// Data of this extent or more, in bytes, become an image only where they fill more than half of
+    /// it.
     pub max_image: u64,
 }
 

@@ -23,8 +23,8 @@ pub struct PlaceRecord<'d> {
     /// Where the wrong entry or part begins; the length of the module where it ends inside its header
     /// or a section.
     pub byte: u32,
-    /// How many bytes decide the refusal, whatever follows them; `u32::MAX` where the module ends too
-    /// early.
+    /// How many bytes decide that the module is refused, whatever follows them; with other bytes behind
+    /// them the cause may differ. `u32::MAX` where the module ends too early.
     pub decided: u32,
     /// What is wrong: a number from `BOBBINAZURE_FAULT_HEADER` on.
     pub fault: u32,

@@ -82,15 +82,17 @@ pub(crate) struct PlanRecord {
     pub(crate) tables: List<Table>,
     pub(crate) globals: List<Global>,
     pub(crate) tags: List<Tag>,
-    /// The runtime data: images, and the bytes of segments.
+    /// The runtime data: images or the bytes of active segments, then those of passive ones.
     pub(crate) runtime: List<Runtime>,
-    /// The range of each runtime data; the ranges are end to end from 0.
+    /// The range of each runtime data; the ranges are end to end from 0. Images have whole pages,
+    /// so each of their ranges begins at a multiple of `data_align`.
     pub(crate) runtime_ranges: List<Range>,
-    /// The images of memories.
+    /// The images of memories, by ascending memory.
     pub(crate) images: List<Image>,
-    /// The data segments that remain to be written, in order; the images, where there are some.
+    /// What startup writes to memories, in order: data segments, or, where images are made, each of
+    /// the images. An engine leaves out an image that it maps.
     pub(crate) segments: List<Segment>,
-    /// The passive data segments that keep their bytes.
+    /// The passive data segments that keep their bytes, by ascending segment.
     pub(crate) passive: List<Passive>,
     /// The image of each defined table, a part of the next list.
     pub(crate) table_images: List<Span>,
@@ -135,7 +137,7 @@ pub(crate) struct PlanRecord {
     pub(crate) export_names: List<u8>,
     /// The module's name, if it has one, a part of `module_text`.
     pub(crate) module_names: List<Span>,
-    /// The layouts of the objects of interned types that have some.
+    /// The layouts of the objects of interned types that have some, by ascending type.
     pub(crate) layouts: List<Layout>,
     /// The fields of layouts, end to end.
     pub(crate) layout_fields: List<LayoutField>,

@@ -26,7 +26,8 @@ pub struct Options {
     pub collector: u8,
     /// The page size of images, in bytes: a power of two.
     pub page_size: u64,
-    /// The size from which on an image must be more than half full of data, in bytes.
+    /// Data of this extent or more, in bytes, become an image only where they fill more than half
+    /// of it.
     pub max_image: u64,
 }
 
@@ -841,8 +842,8 @@ pub struct Place {
     /// Where the wrong entry or part begins; the length of the module where it ends inside its
     /// header or a section.
     pub byte: u32,
-    /// How many bytes decide the refusal, whatever follows them; `u32::MAX` where the module ends
-    /// too early.
+    /// How many bytes decide that the module is refused, whatever follows them; with other bytes
+    /// behind them the cause may differ. `u32::MAX` where the module ends too early.
     pub decided: u32,
     /// What is wrong: a number from [`numbers::FAULT_HEADER`](crate::numbers::FAULT_HEADER) on.
     pub fault: u32,
