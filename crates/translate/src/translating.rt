@@ -19,8 +19,8 @@ use vm_offsets::VMOffsets;
 use wasm_types::Tunables;
 
 /// The plan of the module that the bytes spell, with these options: the switches, how objects are
-/// collected, the size of a pointer of the target, the page size of images and the size from which
-/// on an image must be half full of data.
+/// collected, the size of a pointer of the target, the page size of images and the extent from
+/// which on data become an image only where they fill more than half of it.
 ///
 /// # Errors
 /// `Malformed`, `Unsupported` and `TooLarge` by what the bytes spell and by their length, `Invalid`
