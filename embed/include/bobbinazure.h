@@ -383,7 +383,7 @@ typedef struct {
 /* A memory. */
 typedef struct {
     uint64_t minimum;       /* The least size, in pages. */
-    /* The greatest size, in pages; BOBBINAZURE_UNBOUNDED where there is none. */
+    /* The greatest size, in pages; BOBBINAZURE_UNBOUNDED where none is declared. */
     uint64_t maximum;
     /* The least size, in bytes; BOBBINAZURE_UNBOUNDED where it has more bytes than that. */
     uint64_t minimum_bytes;
@@ -394,15 +394,17 @@ typedef struct {
     uint8_t page_size_log2; /* The page size as an exponent of 2: 0 or 16. */
     uint8_t shared;         /* Whether threads may share it. */
     uint8_t wide;           /* Whether addresses have 64 bits. */
+    uint8_t bounded;        /* Whether a greatest size is declared. */
 } bobbinazure_memory;
 
 /* A table. */
 typedef struct {
     uint64_t minimum;          /* The least size, in cells. */
-    /* The greatest size, in cells; BOBBINAZURE_UNBOUNDED where there is none. */
+    /* The greatest size, in cells; BOBBINAZURE_UNBOUNDED where none is declared. */
     uint64_t maximum;
     bobbinazure_value element; /* The type of its elements, a reference. */
     uint32_t wide;             /* Whether indices have 64 bits. */
+    uint32_t bounded;          /* Whether a greatest size is declared. */
 } bobbinazure_table;
 
 /* A global. */
@@ -467,21 +469,24 @@ typedef struct {
 typedef struct {
     uint32_t count; /* How many there are. */
     /* Their type. In locals a type of the module is named by the type section: list is
-       BOBBINAZURE_OF_SECTION, and heap is BOBBINAZURE_HEAP_DECLARED. */
+       BOBBINAZURE_OF_SECTION, and heap is BOBBINAZURE_HEAP_DECLARED. In metadata_locals it is an
+       interned type. */
     bobbinazure_value value;
 } bobbinazure_locals;
 
 /* An operator of a constant expression. */
 typedef struct {
-    uint8_t code;   /* Which one, from BOBBINAZURE_I32_CONST on. */
-    uint8_t heap;   /* What a null reference is to, from BOBBINAZURE_HEAP_EXTERN on. */
+    uint8_t code;  /* Which one, from BOBBINAZURE_I32_CONST on. */
+    uint8_t heap;  /* What a null reference is to, from BOBBINAZURE_HEAP_EXTERN on. */
     /* Which list the index of a null reference is of, from BOBBINAZURE_NO_INDEX on. */
     uint8_t list;
-    uint32_t index; /* The global, the function or the type that it names. */
+    /* The global, the function or the type that it names. An operator that makes an object names
+       its type by the type section; a null reference by list. */
+    uint32_t index;
     /* The bits of a constant, of a vector the lower half; of array.new_fixed the number of
        elements. */
     uint64_t low;
-    uint64_t high;  /* The upper half of the bits of a vector. */
+    uint64_t high; /* The upper half of the bits of a vector. */
 } bobbinazure_operator;
 
 /* A defined global that begins as a known value. */
@@ -853,7 +858,7 @@ typedef struct {
     /* What startup writes to memories, in order: data segments, or, where images are made, each
        of the images. An engine leaves out an image that it maps. */
     BOBBINAZURE_LIST(bobbinazure_segment) segments;
-    /* The passive data segments that keep their bytes, by ascending segment. */
+    /* The passive data segments, by ascending segment. */
     BOBBINAZURE_LIST(bobbinazure_passive) passive;
     /* The image of each defined table, a part of the next list. */
     BOBBINAZURE_LIST(bobbinazure_span) table_images;
@@ -885,7 +890,7 @@ typedef struct {
     /* The offset of each of elements, as an expression. */
     bobbinazure_expressions element_places;
     /* The first value of the cells of each defined table; it has no operators where they begin
-       as null. */
+       as null, or as table_images says. */
     bobbinazure_expressions table_values;
     BOBBINAZURE_LIST(bobbinazure_import) imports;               /* The imports, in order. */
     /* The names of imports, end to end, in UTF-8. */
@@ -964,9 +969,12 @@ typedef struct {
     uint32_t table;
     /* Which of expressions gives the offset of an active one, in cells; 0 of another one. */
     size_t offset;
-    /* The type of each item, a reference. A type of the module is named by the type section:
-       list is BOBBINAZURE_OF_SECTION, and heap is BOBBINAZURE_HEAP_DECLARED. */
+    /* The type of each item, a reference; of function indices funcref, as in a plan. A type of
+       the module is named by the type section: list is BOBBINAZURE_OF_SECTION, and heap is
+       BOBBINAZURE_HEAP_DECLARED. */
     bobbinazure_value element;
+    /* Whether its items are written as constant expressions; else as function indices. */
+    uint32_t expressed;
     bobbinazure_span functions; /* The items that are functions, a part of functions. */
     /* The items that are constant expressions, a part of expressions.parts. */
     bobbinazure_span expressions;

@@ -83,12 +83,14 @@ BOBBINAZURE_AT(memory, maximum_bytes, 24);
 BOBBINAZURE_AT(memory, page_size_log2, 32);
 BOBBINAZURE_AT(memory, shared, 33);
 BOBBINAZURE_AT(memory, wide, 34);
+BOBBINAZURE_AT(memory, bounded, 35);
 
 BOBBINAZURE_SIZE(table, 32);
 BOBBINAZURE_AT(table, minimum, 0);
 BOBBINAZURE_AT(table, maximum, 8);
 BOBBINAZURE_AT(table, element, 16);
 BOBBINAZURE_AT(table, wide, 24);
+BOBBINAZURE_AT(table, bounded, 28);
 
 BOBBINAZURE_SIZE(global, 12);
 BOBBINAZURE_AT(global, value, 0);
@@ -428,13 +430,14 @@ BOBBINAZURE_AT(data_segment, memory, 4);
 BOBBINAZURE_AT(data_segment, offset, 8);
 BOBBINAZURE_AT(data_segment, bytes, 16);
 
-BOBBINAZURE_SIZE(element_segment, 56);
+BOBBINAZURE_SIZE(element_segment, 64);
 BOBBINAZURE_AT(element_segment, kind, 0);
 BOBBINAZURE_AT(element_segment, table, 4);
 BOBBINAZURE_AT(element_segment, offset, 8);
 BOBBINAZURE_AT(element_segment, element, 16);
-BOBBINAZURE_AT(element_segment, functions, 24);
-BOBBINAZURE_AT(element_segment, expressions, 40);
+BOBBINAZURE_AT(element_segment, expressed, 24);
+BOBBINAZURE_AT(element_segment, functions, 32);
+BOBBINAZURE_AT(element_segment, expressions, 48);
 
 BOBBINAZURE_SIZE(segment_list, 96);
 BOBBINAZURE_AT(segment_list, data_segments, 0);

@@ -139,11 +139,11 @@ static void put_functions(const bobbinazure_plan *plan, const uint8_t *module) {
     close_list();
 }
 
-static void put_limits(uint64_t minimum, uint64_t maximum, int wide) {
+static void put_limits(uint64_t minimum, uint64_t maximum, int bounded, int wide) {
     word("address_type", wide ? "i64" : "i32");
     number("minimum", minimum);
-    if (maximum == BOBBINAZURE_UNBOUNDED) null("maximum");
-    else number("maximum", maximum);
+    if (bounded) number("maximum", maximum);
+    else null("maximum");
 }
 
 static void put_tables(const bobbinazure_plan *plan) {
@@ -155,7 +155,7 @@ static void put_tables(const bobbinazure_plan *plan) {
         open_object(0);
         number("index", i);
         boolean("imported", i < imported);
-        put_limits(table->minimum, table->maximum, table->wide != 0);
+        put_limits(table->minimum, table->maximum, table->bounded != 0, table->wide != 0);
         put_value_type("element", table->element);
         if (i < imported || !plan->table_values.parts.at[defined].len) null("init");
         else put_expression("init", "expression", &plan->table_values, defined);
@@ -177,7 +177,7 @@ static void put_memories(const bobbinazure_plan *plan) {
         open_object(0);
         number("index", i);
         boolean("imported", i < plan->entities.imported_memories);
-        put_limits(memory->minimum, memory->maximum, memory->wide);
+        put_limits(memory->minimum, memory->maximum, memory->bounded, memory->wide);
         number("page_size", (uint64_t)1 << memory->page_size_log2);
         boolean("shared", memory->shared);
         close_object();

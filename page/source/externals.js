@@ -114,14 +114,12 @@ function nameIn(names, { begin, len }) {
 }
 
 // A greatest size, or null where there is none.
-const bounded = maximum => (maximum === UNBOUNDED ? null : maximum);
-
-function memoryOf({ minimum, maximum, page_size_log2, shared, wide }) {
-  return { page: 2 ** page_size_log2, minimum, maximum: bounded(maximum), isShared: shared !== 0, isWide: wide !== 0 };
+function memoryOf({ minimum, maximum, page_size_log2, shared, wide, bounded }) {
+  return { page: 2 ** page_size_log2, minimum, maximum: bounded !== 0 ? maximum : null, isShared: shared !== 0, isWide: wide !== 0 };
 }
 
-function tableOf({ minimum, maximum, element, wide }, numbers) {
-  return { minimum, maximum: bounded(maximum), element: valueWords(element, numbers), isWide: wide !== 0 };
+function tableOf({ minimum, maximum, element, wide, bounded }, numbers) {
+  return { minimum, maximum: bounded !== 0 ? maximum : null, element: valueWords(element, numbers), isWide: wide !== 0 };
 }
 
 // A value's type in the words of the text.

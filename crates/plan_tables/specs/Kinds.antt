@@ -1,5 +1,5 @@
 -- What the tables say of memories, tables, globals and tags.
-use Rattle.std.specs.Prelude.{◌≡◌, ℕ, ◌^◌, ◌-◌, map, Option, unwrap_or}
+use Rattle.std.specs.Prelude.{◌≡◌, ℕ, ◌^◌, ◌-◌, map, Option, is_some, unwrap_or}
 use Rattle.wasm_types.specs.declared.global.Global.{Global}
 use Rattle.wasm_types.specs.declared.memory.Memory.{Memory}
 use Rattle.wasm_types.specs.declared.table.Table.{Table}
@@ -29,6 +29,7 @@ memory_row m = record {
   page_size_log2 = m.page_size_log2;
   shared = bit m.shared;
   wide = wide_bit m.idx_type;
+  bounded = bit (is_some m.limits.max);
 }
 
 abbrev pub table_row : Table → TableRow
@@ -37,6 +38,7 @@ table_row t = record {
   maximum = greatest t.limits.max;
   element = ref_row t.ref_type;
   wide = wide_bit t.idx_type;
+  bounded = bit (is_some t.limits.max);
 }
 
 abbrev pub global_row : Global → GlobalRow

@@ -40,6 +40,7 @@ fn memory_row(memory: &Memory) -> MemoryRow
         page_size_log2: memory.page_size_log2,
         shared: bit(memory.shared),
         wide: wide_bit(memory.idx_type),
+        bounded: bit(memory.limits.max.is_some()),
     }
 }
 
@@ -61,6 +62,7 @@ fn table_row(table: &Table) -> TableRow
         maximum: table.limits.max.unwrap_or(u64::MAX),
         element: ref_row(table.ref_type),
         wide: u32::from(wide_bit(table.idx_type)),
+        bounded: u32::from(bit(table.limits.max.is_some())),
     }
 }
 

@@ -76,7 +76,7 @@ pub struct MemoriesRecord<'d> {
     /// What startup writes to memories, in order: data segments, or, where images are made, each of
     /// the images. An engine leaves out an image that it maps.
     pub segments: &'d [SegmentRow],
-    /// The passive data segments that keep their bytes, by ascending segment.
+    /// The passive data segments, by ascending segment.
     pub passive: &'d [PassiveRow],
 }
 
@@ -265,7 +265,7 @@ pub struct PlacesRecord<'d> {
     /// The offset of each of `elements`, as an expression: `element_places`.
     pub elements: ExpressionsRecord<'d>,
     /// The first value of the cells of each defined table; it has no operators where they begin as
-    /// null: `table_values`.
+    /// null, or as `table_images` says: `table_values`.
     pub tables: ExpressionsRecord<'d>,
 }
 

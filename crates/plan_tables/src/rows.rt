@@ -142,7 +142,7 @@ pub struct ValueRow {
 pub struct MemoryRow {
     /// The least size, in pages.
     pub minimum: u64,
-    /// The greatest size, in pages; `u64::MAX` where there is none.
+    /// The greatest size, in pages; `u64::MAX` where none is declared.
     pub maximum: u64,
     /// The least size, in bytes; `u64::MAX` where it has more bytes than that.
     pub minimum_bytes: u64,
@@ -155,6 +155,8 @@ pub struct MemoryRow {
     pub shared: u8,
     /// Whether addresses have 64 bits.
     pub wide: u8,
+    /// Whether a greatest size is declared.
+    pub bounded: u8,
 }
 
 /// A table: `bobbinazure_table`.
@@ -163,12 +165,14 @@ pub struct MemoryRow {
 pub struct TableRow {
     /// The least size, in cells.
     pub minimum: u64,
-    /// The greatest size, in cells; `u64::MAX` where there is none.
+    /// The greatest size, in cells; `u64::MAX` where none is declared.
     pub maximum: u64,
     /// The type of its elements, a reference.
     pub element: ValueRow,
     /// Whether indices have 64 bits.
     pub wide: u32,
+    /// Whether a greatest size is declared.
+    pub bounded: u32,
 }
 
 /// A global: `bobbinazure_global`.
@@ -264,7 +268,8 @@ pub struct LocalsRow {
     /// How many there are.
     pub count: u32,
     /// Their type. In `locals` a type of the module is named by the type section: `list` is
-    /// `BOBBINAZURE_OF_SECTION`, and `heap` is `BOBBINAZURE_HEAP_DECLARED`.
+    /// `BOBBINAZURE_OF_SECTION`, and `heap` is `BOBBINAZURE_HEAP_DECLARED`. In `metadata_locals` it is
+    /// an interned type.
     pub value: ValueRow,
 }
 
@@ -278,7 +283,8 @@ pub struct OperatorRow {
     pub heap: u8,
     /// Which list the index of a null reference is of, from `BOBBINAZURE_NO_INDEX` on.
     pub list: u8,
-    /// The global, the function or the type that it names.
+    /// The global, the function or the type that it names. An operator that makes an object names its
+    /// type by the type section; a null reference by `list`.
     pub index: u32,
     /// The bits of a constant, of a vector the lower half; of `array.new_fixed` the number of
     /// elements.

@@ -26,7 +26,8 @@ pub extern "C" fn bobbinazure_memory_may_move(
     ensures moves { (m : Memory) (choice : MemoryTunables) → IsRowOf m memory.now → choice.reservation ≡ reservation
         → (IsTrue choice.may_move ↔ (may_move ≢ 0)) → (result ≡ 1) ↔ MayMove m choice }
 {
-    let is_fixed = may_move == 0 || memory.shared != 0 || memory.minimum == memory.maximum;
+    let is_full = memory.bounded != 0 && memory.minimum == memory.maximum;
+    let is_fixed = may_move == 0 || memory.shared != 0 || is_full;
     u32::from(!is_fixed && memory.maximum_bytes > reservation)
 }
 

@@ -36,6 +36,11 @@ abbrev pub item_type : ElementItems → RefType
 item_type (Functions indices) = record { nullable = true; heap = Abstract Func }
 item_type (Expressions type items) = type
 
+-- whether items are written as constant expressions
+abbrev pub expressed_bit : ElementItems → ℕ
+expressed_bit (Functions indices) = 0
+expressed_bit (Expressions type items) = 1
+
 abbrev pub functions_in : ElementItems → List ℕ
 functions_in (Functions indices) = indices
 functions_in (Expressions type items) = []
@@ -55,6 +60,7 @@ element_row f n e = record {
   table = table_number e.kind;
   offset = offset_number n e.kind;
   element = read_ref_row (item_type e.items);
+  expressed = expressed_bit e.items;
   functions = record { begin = f; len = length (functions_in e.items) };
   expressions = record { begin = n + length (offsets_in e.kind); len = length (expressions_in e.items) };
 }

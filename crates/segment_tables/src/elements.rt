@@ -6,7 +6,7 @@ ghost use Rattle.wasm_spec.specs.Module as plain;
 ghost use Rattle.wasm_spec.specs.Module.{Expression, elements_of_section};
 ghost use Rattle.form_data.specs.Views.{expression_of, element_kind_of, items_of, element_of, payload_of};
 ghost use Rattle.segment_tables.specs.Expressions.{HasExpressions};
-ghost use Rattle.segment_tables.specs.Elements.{kind_number, table_number, offsets_in, offset_number, item_type, functions_in, expressions_in, element_expressions, HasElements};
+ghost use Rattle.segment_tables.specs.Elements.{kind_number, table_number, offsets_in, offset_number, item_type, expressed_bit, functions_in, expressions_in, element_expressions, HasElements};
 
 use crate::expressions::{ExpressionRows, push_expression, push_expressions};
 use crate::segment_rows::ElementSegmentRow;
@@ -72,6 +72,15 @@ fn item_type(items: &ElementItems) -> RefType
     }
 }
 
+fn expressed_bit(items: &ElementItems) -> u32
+    ensures { result ≡ expressed_bit (items_of items.now) }
+{
+    match items {
+        ElementItems::Functions(_) => 0,
+        ElementItems::Expressions(..) => 1,
+    }
+}
+
 fn functions_in(items: &ElementItems) -> &[u32]
     ensures { result.now ≡ functions_in (items_of items.now) }
 {
@@ -106,6 +115,7 @@ fn push_element(
         table: table_number(&element.kind),
         offset,
         element: read_ref_row(item_type(&element.items)),
+        expressed: expressed_bit(&element.items),
         functions: Span {
             begin: out.functions.len(),
             len: functions.len(),

@@ -29,9 +29,12 @@ pub struct ElementSegmentRow {
     pub table: u32,
     /// Which of `expressions` gives the offset of an active one, in cells; 0 of another one.
     pub offset: usize,
-    /// The type of each item, a reference. A type of the module is named by the type section:
-    /// `list` is `BOBBINAZURE_OF_SECTION`, and `heap` is `BOBBINAZURE_HEAP_DECLARED`.
+    /// The type of each item, a reference; of function indices `funcref`, as in a plan. A type of the
+    /// module is named by the type section: `list` is `BOBBINAZURE_OF_SECTION`, and `heap` is
+    /// `BOBBINAZURE_HEAP_DECLARED`.
     pub element: ValueRow,
+    /// Whether its items are written as constant expressions; else as function indices.
+    pub expressed: u32,
     /// The items that are functions, a part of `functions`.
     pub functions: Span,
     /// The items that are constant expressions, a part of `expressions.parts`.

@@ -83,6 +83,8 @@ fn element_segments_are_told(rt: HostRuntime) -> Result<(), Fail> {
     assert!(rt; is_span(rows[1].functions, 1, 2) && is_span(rows[1].expressions, 1, 0));
     assert!(rt; is_span(rows[2].functions, 3, 0) && is_span(rows[2].expressions, 1, 1));
     assert!(rt; is_span(rows[3].functions, 3, 0) && is_span(rows[3].expressions, 3, 1));
+    assert!(rt; rows[0].expressed == 0 && rows[1].expressed == 0);
+    assert!(rt; rows[2].expressed == 1 && rows[3].expressed == 1);
     assert!(rt; told.functions == [0, 1, 0].as_slice());
     Ok(())
 }

@@ -24,6 +24,7 @@ pub fn worked_rows()
           table = 0;
           offset = 0;
           element = record { kind = 5; nullable = 1; heap = 2; list = 0; index = 0 };
+          expressed = 0;
           functions = record { begin = 0; len = 2 };
           expressions = record { begin = 1; len = 0 };
         } ∷ record {
@@ -31,6 +32,7 @@ pub fn worked_rows()
           table = 0;
           offset = 0;
           element = record { kind = 5; nullable = 1; heap = 11; list = 0; index = 0 };
+          expressed = 1;
           functions = record { begin = 2; len = 0 };
           expressions = record { begin = 1; len = 1 };
         } ∷ [] }

@@ -125,11 +125,11 @@ impl Memory {
     ///
     /// ```
     /// # use bobbinazure::Memory;
-    /// assert_eq!(Memory { maximum: 3, ..Default::default() }.max(), Some(3));
+    /// assert_eq!(Memory { maximum: 3, bounded: true, ..Default::default() }.max(), Some(3));
     /// assert_eq!(Memory { maximum: u64::MAX, ..Default::default() }.max(), None);
     /// ```
     pub fn max(&self) -> Option<u64> {
-        (self.maximum != u64::MAX).then_some(self.maximum)
+        self.bounded.then_some(self.maximum)
     }
 
     /// The bytes of a page.
@@ -176,7 +176,7 @@ impl Memory {
     ///
     /// ```
     /// # use bobbinazure::Memory;
-    /// let memory = Memory { minimum: 2, maximum: 2, page_size_log2: 16, ..Default::default() };
+    /// let memory = Memory { minimum: 2, maximum: 2, bounded: true, page_size_log2: 16, ..Default::default() };
     /// assert_eq!(memory.static_heap_size(), Some(131072));
     /// assert_eq!(Memory { maximum: 3, ..memory }.static_heap_size(), None);
     /// ```
@@ -190,7 +190,7 @@ impl Memory {
     ///
     /// ```
     /// # use bobbinazure::Memory;
-    /// let memory = Memory { minimum: 1, maximum: 4, maximum_bytes: 4 << 16, page_size_log2: 16, ..Default::default() };
+    /// let memory = Memory { minimum: 1, maximum: 4, bounded: true, maximum_bytes: 4 << 16, page_size_log2: 16, ..Default::default() };
     /// assert!(memory.memory_may_move(65536, true) && !memory.memory_may_move(4 << 16, true));
     /// ```
     pub fn memory_may_move(&self, reservation: u64, may_move: bool) -> bool {
@@ -229,10 +229,10 @@ impl Table {
     ///
     /// ```
     /// # use bobbinazure::Table;
-    /// assert_eq!(Table { maximum: 3, ..Default::default() }.max(), Some(3));
+    /// assert_eq!(Table { maximum: 3, bounded: 1, ..Default::default() }.max(), Some(3));
     /// ```
     pub fn max(&self) -> Option<u64> {
-        (self.maximum != u64::MAX).then_some(self.maximum)
+        (self.bounded != 0).then_some(self.maximum)
     }
 
     /// The type of its elements.

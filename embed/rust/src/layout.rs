@@ -81,12 +81,14 @@ laid_out! {
         page_size_log2 32,
         shared 33,
         wide 34,
+        bounded 35,
     }
     Table: 32 {
         minimum 0,
         maximum 8,
         element 16,
         wide 24,
+        bounded 28,
     }
     Global: 12 {
         value 0,
@@ -426,13 +428,14 @@ laid_out! {
         offset 8,
         bytes 16,
     }
-    ElementSegment: 56 {
+    ElementSegment: 64 {
         kind 0,
         table 4,
         offset 8,
         element 16,
-        functions 24,
-        expressions 40,
+        expressed 24,
+        functions 32,
+        expressions 48,
     }
     SegmentsRecord: 96 {
         data_segments 0,

@@ -176,7 +176,7 @@ impl ModuleSegments<'_> {
                 _ => ElementKind::Declared,
             },
             ty: row.element.into(),
-            items: if row.expressions.len == 0 {
+            items: if row.expressed == 0 {
                 Items::Functions(part(self.record.functions.as_slice(), row.functions))
             } else {
                 let parts = part(self.record.expressions.parts.as_slice(), row.expressions);

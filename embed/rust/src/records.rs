@@ -92,7 +92,7 @@ pub(crate) struct PlanRecord {
     /// What startup writes to memories, in order: data segments, or, where images are made, each of
     /// the images. An engine leaves out an image that it maps.
     pub(crate) segments: List<Segment>,
-    /// The passive data segments that keep their bytes, by ascending segment.
+    /// The passive data segments, by ascending segment.
     pub(crate) passive: List<Passive>,
     /// The image of each defined table, a part of the next list.
     pub(crate) table_images: List<Span>,
@@ -125,7 +125,7 @@ pub(crate) struct PlanRecord {
     /// The offset of each of `elements`, as an expression.
     pub(crate) element_places: ExpressionsRecord,
     /// The first value of the cells of each defined table; it has no operators where they begin as
-    /// null.
+    /// null, or as `table_images` says.
     pub(crate) table_values: ExpressionsRecord,
     /// The imports, in order.
     pub(crate) imports: List<Import>,

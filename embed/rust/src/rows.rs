@@ -137,7 +137,7 @@ pub struct Value {
 pub struct Memory {
     /// The least size, in pages.
     pub minimum: u64,
-    /// The greatest size, in pages; `u64::MAX` where there is none.
+    /// The greatest size, in pages; `u64::MAX` where none is declared.
     pub maximum: u64,
     /// The least size, in bytes; `u64::MAX` where it has more bytes than that.
     pub minimum_bytes: u64,
@@ -150,6 +150,8 @@ pub struct Memory {
     pub shared: bool,
     /// Whether addresses have 64 bits.
     pub wide: bool,
+    /// Whether a greatest size is declared.
+    pub bounded: bool,
 }
 
 /// A table.
@@ -158,12 +160,14 @@ pub struct Memory {
 pub struct Table {
     /// The least size, in cells.
     pub minimum: u64,
-    /// The greatest size, in cells; `u64::MAX` where there is none.
+    /// The greatest size, in cells; `u64::MAX` where none is declared.
     pub maximum: u64,
     /// The type of its elements, a reference.
     pub element: Value,
     /// Whether indices have 64 bits.
     pub wide: u32,
+    /// Whether a greatest size is declared.
+    pub bounded: u32,
 }
 
 /// A global.
@@ -260,7 +264,8 @@ pub struct Locals {
     pub count: u32,
     /// Their type. In `locals` a type of the module is named by the type section: `list` is
     /// [`numbers::OF_SECTION`](crate::numbers::OF_SECTION), and `heap` is
-    /// [`numbers::HEAP_DECLARED`](crate::numbers::HEAP_DECLARED).
+    /// [`numbers::HEAP_DECLARED`](crate::numbers::HEAP_DECLARED). In `metadata_locals` it is an
+    /// interned type.
     pub value: Value,
 }
 
@@ -275,7 +280,8 @@ pub struct Operator {
     /// Which list the index of a null reference is of, from
     /// [`numbers::NO_INDEX`](crate::numbers::NO_INDEX) on.
     pub list: u8,
-    /// The global, the function or the type that it names.
+    /// The global, the function or the type that it names. An operator that makes an object names
+    /// its type by the type section; a null reference by `list`.
     pub index: u32,
     /// The bits of a constant, of a vector the lower half; of `array.new_fixed` the number of
     /// elements.
@@ -818,10 +824,13 @@ pub struct ElementSegment {
     pub table: u32,
     /// Which of `expressions` gives the offset of an active one, in cells; 0 of another one.
     pub offset: usize,
-    /// The type of each item, a reference. A type of the module is named by the type section:
-    /// `list` is [`numbers::OF_SECTION`](crate::numbers::OF_SECTION), and `heap` is
+    /// The type of each item, a reference; of function indices `funcref`, as in a plan. A type of
+    /// the module is named by the type section: `list` is
+    /// [`numbers::OF_SECTION`](crate::numbers::OF_SECTION), and `heap` is
     /// [`numbers::HEAP_DECLARED`](crate::numbers::HEAP_DECLARED).
     pub element: Value,
+    /// Whether its items are written as constant expressions; else as function indices.
+    pub expressed: u32,
     /// The items that are functions, a part of `functions`.
     pub functions: Span,
     /// The items that are constant expressions, a part of `expressions.parts`.

@@ -21,8 +21,8 @@ returns c = λ es has.
     = sym (length-map c.expressions_in-expressions.result.now expression_of) ∙ ap length listed in
     let functions : length c.functions_in-functions.result.now ≡ length (functions_in e.items) = ap length c.functions_in-functions.ensures in
     has_element c.args.out.now (record { rows = c.push.new.self; functions = c.push_functions.new.rows }) c.args.rows.now c.push_expressions.new.rows es e _ has
-    (row_is (length c.args.out.now.functions.items) (length before) _ _ _ _ _ _ _ _ e c.kind_number.ensures c.table_number.ensures
-    (c.in_ok-offset.ensures.number before has.expressions) (c.read_ref_row.ensures ∙ ap read_ref_row c.item_type.ensures)
+    (row_is (length c.args.out.now.functions.items) (length before) _ _ _ _ _ _ _ _ _ e c.kind_number.ensures c.table_number.ensures
+    (c.in_ok-offset.ensures.number before has.expressions) (c.read_ref_row.ensures ∙ ap read_ref_row c.item_type.ensures) c.expressed_bit.ensures
     (grind (arith, common_steps)) functions (grind (arith, common_steps, begin)) counted)
     c.in_ok-push.ensures.items
     (c.in_ok-push_functions.ensures ∙ ap (λ fs. c.args.out.now.functions.items ++ fs) c.functions_in-functions.ensures)
