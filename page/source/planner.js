@@ -4,7 +4,7 @@
 
 const WIDTHS = { uint8_t: 1, uint16_t: 2, uint32_t: 4, uint64_t: 8, size_t: 8 };
 
-// What the header has in place of an index, and of a greatest size, where there is none.
+// What the header has in place of an index where there is none.
 const NONE = 2 ** 32 - 1;
 
 // The calls that say where a module is refused, by the records that they fill.
