@@ -60,7 +60,7 @@ def hint(source):
         return "looks like text; make a binary module of it first: wat2wasm" if is_text else f"is no WebAssembly module; {BEGINS}"
     if len(first) < len(HEADER):
         return f"ends within its header; {BEGINS}"
-    is_component = first[5:] == b"\0\1\0"
+    is_component = first[6:] == b"\1\0"
     return "is a component; take a core module out of it first: wasm-tools component unbundle" if is_component else f"has another version; {BEGINS}"
 
 

@@ -43,12 +43,15 @@ enum {
     BOBBINAZURE_NO_MEMORY = 5
 };
 
-/* Why a module is refused: the field `refusal`. */
+/* Why a module is refused: the field `refusal`. Of several causes the first in this order counts:
+ * 2^30 bytes or more; the first part that is malformed or not supported; the lowest broken rule;
+ * the sizes of runtime data, objects and the context. docs/PROVED.md has the two cases in which no
+ * clause decides. Options are checked before the module: BOBBINAZURE_WRONG_OPTIONS. */
 enum {
     BOBBINAZURE_MALFORMED = 1,      /* the bytes are no module by the grammar of the format */
     BOBBINAZURE_INVALID = 2,        /* refusal_detail: the first of the ten rules that is broken, from 1 */
     BOBBINAZURE_UNSUPPORTED = 3,    /* refusal_detail: a number of the next enum */
-    BOBBINAZURE_TOO_LARGE = 4,      /* the module, or the data of its plan */
+    BOBBINAZURE_TOO_LARGE = 4,      /* the module has 2^30 bytes or more, or the runtime data pass 2^32 - 1 */
     BOBBINAZURE_OFFSET_OVERFLOW = 5 /* an object or the context has more than 4,294,967,295 bytes */
 };
 
@@ -64,7 +67,7 @@ enum {
 
 /* What is wrong at a place: the field `fault`. */
 enum {
-    BOBBINAZURE_FAULT_HEADER = 1,           /* no header of a module; so of a component */
+    BOBBINAZURE_FAULT_HEADER = 1,           /* the input does not begin with the header of a core module; it may be a component */
     BOBBINAZURE_FAULT_UNKNOWN_SECTION = 2,  /* no section has the id */
     BOBBINAZURE_FAULT_SECTION_ORDER = 3,    /* the section may not follow those before it */
     BOBBINAZURE_FAULT_SECTION_SIZE = 4,     /* its size is no unsigned number of 32 bits */
@@ -80,7 +83,7 @@ enum {
 /* The lists of which a rule speaks: the field `list`. */
 enum {
     BOBBINAZURE_IN_TYPES = 0,       /* the declared types */
-    BOBBINAZURE_IN_FUNCTIONS = 1,   /* the index space, imports first; the next three too */
+    BOBBINAZURE_IN_FUNCTIONS = 1,   /* the index space, imports first; so are the next three lists */
     BOBBINAZURE_IN_TABLE_TYPES = 2,
     BOBBINAZURE_IN_MEMORIES = 3,
     BOBBINAZURE_IN_TAGS = 4,
@@ -116,16 +119,16 @@ enum {
     BOBBINAZURE_EXCESS_INPUT = 1,     /* the module has 2^30 bytes or more */
     BOBBINAZURE_EXCESS_IMAGE = 2,     /* with the image of a memory, runtime data pass 4294967295 bytes */
     BOBBINAZURE_EXCESS_OBJECT = 3,    /* an object of a type has more than 4294967295 bytes */
-    BOBBINAZURE_EXCESS_EXCEPTION = 4, /* an exception of a tag has */
-    BOBBINAZURE_EXCESS_CONTEXT = 5    /* the context of an instance has */
+    BOBBINAZURE_EXCESS_EXCEPTION = 4, /* an exception of a tag has more than 4294967295 bytes */
+    BOBBINAZURE_EXCESS_CONTEXT = 5    /* the context of an instance has more than 4294967295 bytes */
 };
 
 /* How the offset of a segment is given: the field `kind`. */
 enum {
     BOBBINAZURE_AT_BYTE = 0,        /* offset: the offset itself, which the planner computed */
-    BOBBINAZURE_AT_CONSTANT = 1,    /* offset: the bits of the constant; of 32, zeros before them */
+    BOBBINAZURE_AT_CONSTANT = 1,    /* offset: the bits of the constant; 32 bits are zero-extended */
     BOBBINAZURE_AT_GLOBAL = 2,      /* offset: the index of the global that holds it */
-    BOBBINAZURE_AT_EXPRESSION = 3   /* another one: its operators are in segment_places or element_places */
+    BOBBINAZURE_AT_EXPRESSION = 3   /* another expression: its operators are in segment_places or element_places */
 };
 
 /* What a segment of a module is: the field `kind` of a data or an element segment. */
@@ -151,8 +154,8 @@ enum {
     BOBBINAZURE_TAG = 4
 };
 
-/* Which list of types the index in a value type is of. In a plan it is that of the interned types, in
- * locals of bodies and in segments of a module that of the type section. */
+/* To which list of types the index in a value type belongs. In a plan it is the list of interned types;
+ * in locals of bodies and in segments of a module it is the type section. */
 enum {
     BOBBINAZURE_NO_INDEX = 0,
     BOBBINAZURE_OF_ENGINE = 1,
@@ -170,7 +173,7 @@ enum {
     BOBBINAZURE_F64 = 3,
     BOBBINAZURE_V128 = 4,
     BOBBINAZURE_REF = 5,
-    BOBBINAZURE_I8 = 6,             /* of a field only, as the next */
+    BOBBINAZURE_I8 = 6,             /* in a field only, as the next */
     BOBBINAZURE_I16 = 7
 };
 
@@ -1171,9 +1174,9 @@ typedef struct {
 
 /* Plans the module that the bytes spell.
  *
- * The call reads the bytes and the options. The plan points into the bytes, where a segment or a
- * name is, so the bytes must outlive the plan. `plan` must come from bobbinazure_plan_init: what it
- * held is not freed.
+ * The call reads the bytes and the options. The plan points into the bytes, where a body, a segment
+ * or a name is: keep the bytes until you free the plan. `plan` must come from bobbinazure_plan_init:
+ * what it held is not freed.
  *
  *   PLANNED        the plan is complete; bobbinazure_plan_free frees it
  *   REFUSED        its first three fields say why; its lists stay empty, so nothing has to be freed
@@ -1203,7 +1206,7 @@ uint32_t bobbinazure_make_plan_and_text(const uint8_t *bytes, size_t len, const 
  *   REFUSED        its first four fields say which module is refused, the first where both are, and
  *                  why; it has no answers
  *   NO_MEMORY      it is unchanged
- *   WRONG_OPTIONS  it is unchanged; so it is where the name is not UTF-8 */
+ *   WRONG_OPTIONS  the options are wrong, or the name is not UTF-8; it is unchanged */
 uint32_t bobbinazure_link(const uint8_t *exporter, size_t exporter_len, const uint8_t *importer, size_t importer_len,
                           const uint8_t *as_module, size_t as_module_len, const bobbinazure_options *options,
                           bobbinazure_link_record *links);
@@ -1223,7 +1226,7 @@ uint32_t bobbinazure_link(const uint8_t *exporter, size_t exporter_len, const ui
  *                  refused; if all have plans, the first with too many types or the first that has
  *                  both names of an export of an earlier one
  *   NO_MEMORY      it is unchanged
- *   WRONG_OPTIONS  it is unchanged; so it is where a name is not UTF-8 */
+ *   WRONG_OPTIONS  the options are wrong, or a name is not UTF-8; it is unchanged */
 uint32_t bobbinazure_link_program(const bobbinazure_named_module *modules, size_t count,
                                   const bobbinazure_options *options, bobbinazure_program *program);
 
@@ -1288,10 +1291,12 @@ uint32_t bobbinazure_sections(const uint8_t *bytes, size_t len, bobbinazure_sect
  * it can grow to is reserved. */
 uint32_t bobbinazure_memory_may_move(const bobbinazure_memory *memory, uint64_t reservation, uint32_t may_move);
 
-/* Whether an address of 32 bits cannot leave what is reserved for a memory and its guard pages, on a
- * host that turns their faults into traps: 1, or 0. Behind the `reservation` bytes of the memory are
- * `guard_size` bytes of such pages. The host's page size is an exponent of 2. The static offset of
- * an access, and its width, must fit behind the address too: the engine checks it. */
+/* Whether the engine can leave out the bounds check of an address: 1, or 0. It can where the memory
+ * has addresses of 32 bits, `reservation` and `guard_size` together cover 2^32 bytes, and the pages of
+ * the memory are no smaller than the host's. The `guard_size` bytes of guard pages follow the
+ * reservation, and the host turns their faults into traps. The host's page size is given as an
+ * exponent of 2. The answer covers the address alone: the engine must still check that the static
+ * offset plus the width of an access fits into the guard. */
 uint32_t bobbinazure_can_elide_bounds_check(const bobbinazure_memory *memory, uint64_t reservation,
                                             uint64_t guard_size, uint32_t host_page_size_log2);
 
@@ -1347,8 +1352,7 @@ static inline uint32_t bobbinazure_passive_elements_of(const bobbinazure_plan *p
 }
 
 /* The runtime data of the passive data segment at this index in the data section, which memory.init
- * and data.drop name. BOBBINAZURE_NONE where that segment is not passive, and where it has no
- * bytes. */
+ * and data.drop name. BOBBINAZURE_NONE where that segment is not passive. */
 static inline uint32_t bobbinazure_passive_data_of(const bobbinazure_plan *plan, uint32_t segment) {
     size_t low = 0, high = plan->passive.len;
     while (low < high) {

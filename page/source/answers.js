@@ -88,7 +88,7 @@ function resultCard(plan) {
   return card(
     "Result: planned",
     el("p", { class: "result" }, ...result),
-    el("p", { class: "soft" }, "What the planner says is proved; by each list it is said what this page’s script adds. Function bodies are not validated."),
+    el("p", { class: "soft" }, "The answers of the planner are proved. A note at each list says what this page’s script adds. Function bodies are not validated."),
     el("dl", { class: "facts" }, ...factsOf(summary).map(factPart)),
     el("p", {}, more.filter(Boolean).join(" "), " ", startup),
   );

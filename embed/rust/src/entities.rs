@@ -197,10 +197,12 @@ impl Memory {
         bobbinazure_memory_may_move(self, reservation, u32::from(may_move)) != 0
     }
 
-    /// Whether an address of 32 bits cannot leave what is reserved and its guard pages, on a host
-    /// that turns their faults into traps. Behind the `reservation` bytes of the memory are
-    /// `guard_size` bytes of such pages. The host's page size is an exponent of 2. The static offset
-    /// of an access, and its width, must fit behind the address too: the engine checks it.
+    /// Whether the engine can leave out the bounds check of an address. It can where the memory has
+    /// addresses of 32 bits, `reservation` and `guard_size` together cover 2^32 bytes, and the pages
+    /// of the memory are no smaller than the host's. The `guard_size` bytes of guard pages follow
+    /// the reservation, and the host turns their faults into traps. The host's page size is given as
+    /// an exponent of 2. The answer covers the address alone: the engine must still check that the
+    /// static offset plus the width of an access fits into the guard.
     ///
     /// ```
     /// # use bobbinazure::Memory;

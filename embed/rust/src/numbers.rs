@@ -11,15 +11,13 @@ pub const WRONG_OPTIONS: u32 = 2;
 /// no memory
 pub const NO_MEMORY: u32 = 5;
 
-// Why a module is refused: the field `refusal`.
-
 /// the bytes are no module by the grammar of the format
 pub const MALFORMED: u32 = 1;
 /// refusal_detail: the first of the ten rules that is broken, from 1
 pub const INVALID: u32 = 2;
 /// refusal_detail: a number of the next enum
 pub const UNSUPPORTED: u32 = 3;
-/// the module, or the data of its plan
+/// the module has 2^30 bytes or more, or the runtime data pass 2^32 - 1
 pub const TOO_LARGE: u32 = 4;
 /// an object or the context has more than 4,294,967,295 bytes
 pub const OFFSET_OVERFLOW: u32 = 5;
@@ -41,7 +39,7 @@ pub const INTERFACE_TYPES: u32 = 6;
 
 // What is wrong at a place: the field `fault`.
 
-/// no header of a module; so of a component
+/// the input does not begin with the header of a core module; it may be a component
 pub const FAULT_HEADER: u32 = 1;
 /// no section has the id
 pub const FAULT_UNKNOWN_SECTION: u32 = 2;
@@ -68,7 +66,7 @@ pub const FAULT_UNSUPPORTED: u32 = 11;
 
 /// the declared types
 pub const IN_TYPES: u32 = 0;
-/// the index space, imports first; the next three too
+/// the index space, imports first; so are the next three lists
 pub const IN_FUNCTIONS: u32 = 1;
 /// in table types
 pub const IN_TABLE_TYPES: u32 = 2;
@@ -130,20 +128,20 @@ pub const EXCESS_INPUT: u32 = 1;
 pub const EXCESS_IMAGE: u32 = 2;
 /// an object of a type has more than 4294967295 bytes
 pub const EXCESS_OBJECT: u32 = 3;
-/// an exception of a tag has
+/// an exception of a tag has more than 4294967295 bytes
 pub const EXCESS_EXCEPTION: u32 = 4;
-/// the context of an instance has
+/// the context of an instance has more than 4294967295 bytes
 pub const EXCESS_CONTEXT: u32 = 5;
 
 // How the offset of a segment is given: the field `kind`.
 
 /// offset: the offset itself, which the planner computed
 pub const AT_BYTE: u32 = 0;
-/// offset: the bits of the constant; of 32, zeros before them
+/// offset: the bits of the constant; 32 bits are zero-extended
 pub const AT_CONSTANT: u32 = 1;
 /// offset: the index of the global that holds it
 pub const AT_GLOBAL: u32 = 2;
-/// another one: its operators are in segment_places or element_places
+/// another expression: its operators are in segment_places or element_places
 pub const AT_EXPRESSION: u32 = 3;
 
 // What a segment of a module is: the field `kind` of a data or an element segment.
@@ -204,7 +202,7 @@ pub const F64: u32 = 3;
 pub const V128: u32 = 4;
 /// ref
 pub const REF: u32 = 5;
-/// of a field only, as the next
+/// in a field only, as the next
 pub const I8: u32 = 6;
 /// i16
 pub const I16: u32 = 7;

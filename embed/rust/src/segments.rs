@@ -6,7 +6,7 @@ use crate::records::ElementItemsRecord;
 use crate::rows::{self, Operator, Span};
 use crate::types::RefType;
 
-/// A passive data segment that keeps its bytes.
+/// A passive data segment.
 ///
 /// ```
 /// # let module = b"\0asm\x01\0\0\0\x05\x03\x01\0\x01\x0B\x04\x01\x01\x01a";
@@ -218,7 +218,7 @@ impl Plan<'_> {
     }
 
     /// The passive data segment at this index in the data section: what `memory.init` and
-    /// `data.drop` name. `None` where that segment is not passive, and where it has no bytes.
+    /// `data.drop` name. `None` where that segment is not passive.
     ///
     /// ```
     /// # let bytes = std::fs::read(concat!(env!("CARGO_MANIFEST_DIR"), "/../../examples/linked.wasm"))?;
