@@ -43,10 +43,12 @@ enum {
     BOBBINAZURE_NO_MEMORY = 5
 };
 
-/* Why a module is refused: the field `refusal`. Of several causes the first in this order counts:
- * 2^30 bytes or more; the first part that is malformed or not supported; the lowest broken rule;
- * the sizes of runtime data, objects and the context. docs/PROVED.md has the two cases in which no
- * clause decides. Options are checked before the module: BOBBINAZURE_WRONG_OPTIONS. */
+/* Of several causes of a refusal the first in this order is named: 2^30 bytes or more; the first
+ * part that is malformed or not supported; the lowest broken rule; the sizes of runtime data, objects
+ * and the context. docs/PROVED.md has the two cases in which no clause decides. Options are checked
+ * before the module: BOBBINAZURE_WRONG_OPTIONS. */
+
+/* Why a module is refused: the field `refusal`. */
 enum {
     BOBBINAZURE_MALFORMED = 1,      /* the bytes are no module by the grammar of the format */
     BOBBINAZURE_INVALID = 2,        /* refusal_detail: the first of the ten rules that is broken, from 1 */
@@ -67,7 +69,7 @@ enum {
 
 /* What is wrong at a place: the field `fault`. */
 enum {
-    BOBBINAZURE_FAULT_HEADER = 1,           /* the input does not begin with the header of a core module; it may be a component */
+    BOBBINAZURE_FAULT_HEADER = 1,           /* the input has no header of a core module; it may be a component */
     BOBBINAZURE_FAULT_UNKNOWN_SECTION = 2,  /* no section has the id */
     BOBBINAZURE_FAULT_SECTION_ORDER = 3,    /* the section may not follow those before it */
     BOBBINAZURE_FAULT_SECTION_SIZE = 4,     /* its size is no unsigned number of 32 bits */
@@ -173,7 +175,7 @@ enum {
     BOBBINAZURE_F64 = 3,
     BOBBINAZURE_V128 = 4,
     BOBBINAZURE_REF = 5,
-    BOBBINAZURE_I8 = 6,             /* in a field only, as the next */
+    BOBBINAZURE_I8 = 6,             /* only in a field, as BOBBINAZURE_I16 */
     BOBBINAZURE_I16 = 7
 };
 
@@ -1296,7 +1298,7 @@ uint32_t bobbinazure_memory_may_move(const bobbinazure_memory *memory, uint64_t 
  * the memory are no smaller than the host's. The `guard_size` bytes of guard pages follow the
  * reservation, and the host turns their faults into traps. The host's page size is given as an
  * exponent of 2. The answer covers the address alone: the engine must still check that the static
- * offset plus the width of an access fits into the guard. */
+ * offset plus the width of an access fits behind any such address, within reservation and guard. */
 uint32_t bobbinazure_can_elide_bounds_check(const bobbinazure_memory *memory, uint64_t reservation,
                                             uint64_t guard_size, uint32_t host_page_size_log2);
 

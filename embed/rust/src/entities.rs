@@ -202,7 +202,8 @@ impl Memory {
     /// of the memory are no smaller than the host's. The `guard_size` bytes of guard pages follow
     /// the reservation, and the host turns their faults into traps. The host's page size is given as
     /// an exponent of 2. The answer covers the address alone: the engine must still check that the
-    /// static offset plus the width of an access fits into the guard.
+    /// static offset plus the width of an access fits behind any such address, within reservation
+    /// and guard.
     ///
     /// ```
     /// # use bobbinazure::Memory;

@@ -11,6 +11,8 @@ pub const WRONG_OPTIONS: u32 = 2;
 /// no memory
 pub const NO_MEMORY: u32 = 5;
 
+// Why a module is refused: the field `refusal`.
+
 /// the bytes are no module by the grammar of the format
 pub const MALFORMED: u32 = 1;
 /// refusal_detail: the first of the ten rules that is broken, from 1
@@ -39,7 +41,7 @@ pub const INTERFACE_TYPES: u32 = 6;
 
 // What is wrong at a place: the field `fault`.
 
-/// the input does not begin with the header of a core module; it may be a component
+/// the input has no header of a core module; it may be a component
 pub const FAULT_HEADER: u32 = 1;
 /// no section has the id
 pub const FAULT_UNKNOWN_SECTION: u32 = 2;
@@ -202,7 +204,7 @@ pub const F64: u32 = 3;
 pub const V128: u32 = 4;
 /// ref
 pub const REF: u32 = 5;
-/// in a field only, as the next
+/// only in a field, as BOBBINAZURE_I16
 pub const I8: u32 = 6;
 /// i16
 pub const I16: u32 = 7;
