@@ -61,7 +61,7 @@ LAST = """\
 ## What is not said
 
 - That an allocation succeeds: no clause rules out `OutOfMemory`, status 5.
-- Time, stack and memory: no clause bounds them.
+- Time, stack and memory of a run: no clause bounds them. `costs_law` bounds the size of a plan.
 - That a plan is the one that the Rust crate makes: no build of it was run.
 - That each module which the standard accepts has a plan: what is not supported or too large has none.
 - Bodies of functions: their code is not read. The core specification asks more than the ten listed rules, of bodies

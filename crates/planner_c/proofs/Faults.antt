@@ -41,6 +41,7 @@ is-duplicate _ = ⊥
 
 pub fault-of : (program : List ProgramModule) (e : ProgramError) (r : ProgramRecord) → ((k : ℕ) → e ≡ error.Duplicate k → IsDuplicate program k)
     → ((k : ℕ) → e ≡ error.TooManyTypes k ↔ IsCrowded program k) → TellsError e r → TellsFault program r
+unfolding is-duplicate
 fault-of program (error.Duplicate k) r duplicate crowded told =
     let is = sym told.cause_is.1 in
     let few = fits program (λ i passes. subst is-duplicate ((crowded i).1 passes) tt) in
