@@ -32,7 +32,7 @@ function memoriesCard(plan) {
   const how = summary.hasImages
     ? "Each memory begins as its image. Where an engine cannot map it, startup writes the bytes of the image."
     : "Memories begin with zeros, and startup writes the data segments in order.";
-  const legend = summary.hasImages ? [keyOf("image"), "image: a bar is as high as the share of its bytes that are not zero"] : [keyOf("segment"), "bytes that segments write"];
+  const legend = summary.hasImages ? [keyOf("image"), "image: the height shows how full it is"] : [keyOf("segment"), "bytes that segments write"];
   const draw = rows => el("div", {}, ...rows.map(row => memoryPart(plan, row)));
   return card(
     `Memories: ${spoken(summary.entities.memories)}${summary.hasImages ? ", with images" : ""}`,
