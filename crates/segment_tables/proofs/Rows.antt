@@ -9,11 +9,9 @@ use Rattle.plan_tables.specs.Spans.{spans_from}
 use Rattle.segment_tables.specs.Operators.{operator_row}
 use Rattle.segment_tables.specs.Expressions.{HasExpressions}
 use Rattle.segment_tables.specs.declared.elements.ElementRows.{ElementRows}
-use Rattle.plan_tables.specs.declared.rows.ValueRow.{ValueRow}
 use Rattle.segment_tables.specs.declared.segment_rows.DataSegmentRow.{DataSegmentRow}
 use Rattle.segment_tables.specs.declared.segment_rows.ElementSegmentRow.{ElementSegmentRow}
-use Rattle.plan_tables.specs.Bodies.{read_ref_row}
-use Rattle.segment_tables.specs.Elements.{kind_number, table_number, offsets_in, offset_number, item_type, expressed_bit, functions_in, expressions_in, element_expressions, element_row, element_rows, HasElements}
+use Rattle.segment_tables.specs.Elements.{functions_in, element_expressions, element_row, element_rows, HasElements}
 use Rattle.segment_tables.specs.DataSegments.{data_kind_number, memory_number, data_offsets, data_offset_number, data_told, data_rows, data_expressions, HasSegments}
 
 -- ---- loops
@@ -101,33 +99,6 @@ data_rows_more n (x ∷ xs) s =
     (rest ∙ ap (λ k. data_rows (n + length (data_offsets x.kind)) xs ++ (data_kind_number s.kind, memory_number s.kind, data_offset_number k s.kind, s.bytes) ∷ []) ns)
 
 -- ---- one segment more
-
-abbrev row_of : ℕ → ℕ → ℕ → ValueRow → ℕ → ℕ → ℕ → ℕ → ℕ → ElementSegmentRow
-row_of k t o v x fb fl eb el = record {
-  kind = k;
-  table = t;
-  offset = o;
-  element = v;
-  expressed = x;
-  functions = record { begin = fb; len = fl };
-  expressions = record { begin = eb; len = el };
-}
-
--- the row of a segment by its fields
-pub row_is : (f n k t o x fb fl eb el : ℕ) (v : ValueRow) (e : Element)
-    → k ≡ kind_number e.kind → t ≡ table_number e.kind → o ≡ offset_number n e.kind → v ≡ read_ref_row (item_type e.items) → x ≡ expressed_bit e.items
-    → fb ≡ f → fl ≡ length (functions_in e.items) → eb ≡ n + length (offsets_in e.kind) → el ≡ length (expressions_in e.items)
-    → row_of k t o v x fb fl eb el
-    ≡ element_row f n e
-row_is f n k t o x fb fl eb el v e k-is t-is o-is v-is x-is fb-is fl-is eb-is el-is = λ i. record {
-  kind = k-is i;
-  table = t-is i;
-  offset = o-is i;
-  element = v-is i;
-  expressed = x-is i;
-  functions = record { begin = fb-is i; len = fl-is i };
-  expressions = record { begin = eb-is i; len = el-is i };
-}
 
 pub has_element : (out out' : ElementRows) (r r' : ExpressionRows) (es : List Element) (e : Element) (row : ElementSegmentRow) → HasElements es out r
     → row ≡ element_row (length out.functions.items) (length (flat_map element_expressions es)) e

@@ -1,12 +1,12 @@
 //! Element segments as rows.
 
-ghost use Rattle.std.specs.Prelude.{◌≡◌, ◌++◌, List, [], ◌∷◌, length, map, IfOk, OnOk};
+ghost use Rattle.std.specs.Prelude.{◌≡◌, ℕ, ◌+◌, ◌++◌, List, [], ◌∷◌, length, map, IfOk, OnOk};
 ghost use Rattle.std.specs.List.{flat_map};
 ghost use Rattle.wasm_spec.specs.Module as plain;
 ghost use Rattle.wasm_spec.specs.Module.{Expression, elements_of_section};
 ghost use Rattle.form_data.specs.Views.{expression_of, element_kind_of, items_of, element_of, payload_of};
 ghost use Rattle.segment_tables.specs.Expressions.{HasExpressions};
-ghost use Rattle.segment_tables.specs.Elements.{kind_number, table_number, offsets_in, offset_number, item_type, expressed_bit, functions_in, expressions_in, element_expressions, HasElements};
+ghost use Rattle.segment_tables.specs.Elements.{kind_number, table_number, offsets_in, offset_number, item_type, expressed_bit, functions_in, expressions_in, element_expressions, element_row, HasElements};
 
 use crate::expressions::{ExpressionRows, push_expression, push_expressions};
 use crate::segment_rows::ElementSegmentRow;
@@ -99,6 +99,29 @@ fn expressions_in(items: &ElementItems) -> &[ConstExpr]
     }
 }
 
+/// The row of a segment whose functions begin at a place, its offset at another, and its items that
+/// are expressions at a third.
+fn element_row(functions: usize, offset: usize, items: usize, element: &Element) -> ElementSegmentRow
+    ensures { (n : ℕ) → offset ≡ offset_number n (element_of element.now).kind → items ≡ n + length (offsets_in (element_of element.now).kind)
+        → result ≡ element_row functions n (element_of element.now) }
+{
+    ElementSegmentRow {
+        kind: kind_number(&element.kind),
+        table: table_number(&element.kind),
+        offset,
+        element: read_ref_row(item_type(&element.items)),
+        expressed: expressed_bit(&element.items),
+        functions: Span {
+            begin: functions,
+            len: functions_in(&element.items).len(),
+        },
+        expressions: Span {
+            begin: items,
+            len: expressions_in(&element.items).len(),
+        },
+    }
+}
+
 /// Appends an element segment.
 fn push_element(
     out: &mut ElementRows,
@@ -108,25 +131,10 @@ fn push_element(
     ensures { OnOk result ((es : List plain.Element) → HasElements es out.old rows.old → HasElements (es ++ element_of element.now ∷ []) out.new rows.new) }
 {
     let offset = push_offset(rows, &element.kind)?;
-    let functions = functions_in(&element.items);
-    let expressions = expressions_in(&element.items);
-    out.rows.push(ElementSegmentRow {
-        kind: kind_number(&element.kind),
-        table: table_number(&element.kind),
-        offset,
-        element: read_ref_row(item_type(&element.items)),
-        expressed: expressed_bit(&element.items),
-        functions: Span {
-            begin: out.functions.len(),
-            len: functions.len(),
-        },
-        expressions: Span {
-            begin: rows.parts.len(),
-            len: expressions.len(),
-        },
-    })?;
-    push_functions(&mut out.functions, functions)?;
-    push_expressions(rows, expressions)?;
+    let row = element_row(out.functions.len(), offset, rows.parts.len(), element);
+    out.rows.push(row)?;
+    push_functions(&mut out.functions, functions_in(&element.items))?;
+    push_expressions(rows, expressions_in(&element.items))?;
     Ok(())
 }
 

@@ -1,6 +1,6 @@
 //! Worked examples of the definitions: each clause computes, but those of records.
 
-ghost use Rattle.std.specs.Prelude.{◌≡◌, [], ◌∷◌, length, true, None, Some, pos};
+ghost use Rattle.std.specs.Prelude.{◌≡◌, [], ◌∷◌, length, map, true, None, Some, pos};
 ghost use Rattle.wasm_spec.specs.Module.{ActiveElement, PassiveElement, DeclaredElement, Functions, Expressions, Passive, Active, Exports, Start, Elements, Segments};
 ghost use Rattle.segment_tables.specs.declared.segment_rows.SegmentsRecord.{SegmentsRecord};
 ghost use Rattle.segment_tables.specs.Operators.{operator_row};
@@ -16,26 +16,15 @@ pub fn worked_rows()
     ensures null { operator_row (Operator.RefNull (HeapType.Concrete (UnpackedIndex.Module 3)))
         ≡ record { code = 7; heap = 19; list = 4; index = 3; low = 0; high = 0 } }
     ensures function { operator_row (Operator.RefFunc 4) ≡ record { code = 8; heap = 0; list = 0; index = 4; low = 0; high = 0 } }
-    ensures elements { element_rows 0 0
+    ensures elements {
+        let rows = element_rows 0 0
         (record { kind = ActiveElement None (Operator.I32Const (pos 1) ∷ []); items = Functions (4 ∷ 2 ∷ []) }
-        ∷ record { kind = DeclaredElement; items = Expressions (record { nullable = true; heap = HeapType.Abstract AbstractHeapType.Any }) ((Operator.I32Const (pos 5) ∷ Operator.RefI31 ∷ []) ∷ []) } ∷ [])
-        ≡ record {
-          kind = 1;
-          table = 0;
-          offset = 0;
-          element = record { kind = 5; nullable = 1; heap = 2; list = 0; index = 0 };
-          expressed = 0;
-          functions = record { begin = 0; len = 2 };
-          expressions = record { begin = 1; len = 0 };
-        } ∷ record {
-          kind = 2;
-          table = 0;
-          offset = 0;
-          element = record { kind = 5; nullable = 1; heap = 11; list = 0; index = 0 };
-          expressed = 1;
-          functions = record { begin = 2; len = 0 };
-          expressions = record { begin = 1; len = 1 };
-        } ∷ [] }
+        ∷ record { kind = DeclaredElement; items = Expressions (record { nullable = true; heap = HeapType.Abstract AbstractHeapType.Any }) ((Operator.I32Const (pos 5) ∷ Operator.RefI31 ∷ []) ∷ []) } ∷ []) in
+        (map (λ row. row.kind) rows ≡ 1 ∷ 2 ∷ [])
+        × (map (λ row. row.expressed) rows ≡ 0 ∷ 1 ∷ [])
+        × (map (λ row. row.element) rows ≡ record { kind = 5; nullable = 1; heap = 2; list = 0; index = 0 } ∷ record { kind = 5; nullable = 1; heap = 11; list = 0; index = 0 } ∷ [])
+        × (map (λ row. row.functions) rows ≡ record { begin = 0; len = 2 } ∷ record { begin = 2; len = 0 } ∷ [])
+        × (map (λ row. row.expressions) rows ≡ record { begin = 1; len = 0 } ∷ record { begin = 1; len = 1 } ∷ []) }
     ensures segments { data_rows 2 (record { kind = Passive; bytes = 7 ∷ [] } ∷ record { kind = Active 1 (Operator.I32Const (pos 8) ∷ []); bytes = [] } ∷ [])
         ≡ (0, 0, 0, 7 ∷ []) ∷ (1, 1, 2, []) ∷ [] }
 {}
