@@ -13,7 +13,8 @@
  *
  * The library keeps no state between calls. Several threads may call it at once: a call reads its
  * own arguments and writes its own results. Memory comes from malloc. The caller owns what a call
- * returns, and `.._free` frees it. Bodies and types of references are not validated.
+ * returns, and `.._free` frees it. A plan is no validation: bodies, types of references, and whether
+ * a type fits its supertype are not looked at.
  *
  * No pointer that is passed may be null, also where its length is 0. A record begins as its
  * `.._init` returns it; one of zeros has null pointers. `.._free` leaves it so again: it may be
@@ -156,8 +157,9 @@ enum {
     BOBBINAZURE_TAG = 4
 };
 
-/* To which list of types the index in a value type belongs. In a plan it is the list of interned types;
- * in locals of bodies and in segments of a module it is the type section. */
+/* To which list of types the index in a value type belongs. In a plan it is the list of interned types,
+ * OF_MODULE; in locals of bodies and in segments of a module it is the type section, OF_SECTION. No
+ * record has an index of another list. */
 enum {
     BOBBINAZURE_NO_INDEX = 0,
     BOBBINAZURE_OF_ENGINE = 1,
@@ -257,7 +259,7 @@ enum {
     BOBBINAZURE_NULL_ARRAY_LENGTH = 8,
     BOBBINAZURE_NULL_TAG_INSTANCE = 8,
     BOBBINAZURE_NULL_TAG_DEFINED = 12,
-    BOBBINAZURE_HEADER_KIND = 0,        /* in the header: the kind of the object */
+    BOBBINAZURE_HEADER_KIND = 0,        /* in the header: the kind of the object, a number of 32 bits of the engine's choice */
     BOBBINAZURE_HEADER_TYPE_INDEX = 4   /* in the header: its type, by the index of the engine */
 };
 
@@ -268,7 +270,8 @@ enum {
     BOBBINAZURE_MISMATCH = 2        /* detail: the first broken rule, of the next enum; line: its text */
 };
 
-/* The rules by which an export matches an import, in the order in which they are checked. */
+/* The rules by which an export matches an import, in the order in which they are checked. Types must be
+ * equal: a subtype, which the standard takes for a function or an immutable global, is a mismatch. */
 enum {
     BOBBINAZURE_MISMATCH_KIND = 1,
     BOBBINAZURE_MISMATCH_FUNC_TYPE = 2,
@@ -342,12 +345,16 @@ typedef struct {
     uint64_t imported_tags;      /* Those that are imported. */
 } bobbinazure_entities;
 
-/* Where the parts of a context begin, in bytes. */
+/* Where the parts of a context begin, in bytes. A part has an entry for each thing that it is
+   of, in order, each as long as its struct in structs says. An entry of memories and
+   runtime_data_bases is a pointer, and one of runtime_data_lengths has four bytes. Those of
+   func_refs are numbered by escapes. */
 typedef struct {
     uint32_t size;                 /* The size of the complete context. */
     uint32_t imported_memories;    /* The imported memories. */
-    uint32_t memories;             /* The pointers to the defined memories. */
-    uint32_t owned_memories;       /* The defined memories that are not shared. */
+    uint32_t memories;             /* The pointers to the definitions of the defined memories. */
+    /* The definitions of the defined memories that are not shared. */
+    uint32_t owned_memories;
     uint32_t imported_functions;   /* The imported functions. */
     uint32_t imported_tables;      /* The imported tables. */
     uint32_t imported_globals;     /* The imported globals. */
@@ -393,8 +400,8 @@ typedef struct {
     /* The least size, in bytes; BOBBINAZURE_UNBOUNDED where it has more bytes than that. */
     uint64_t minimum_bytes;
     /* The greatest size, in bytes; BOBBINAZURE_UNBOUNDED where it has more bytes than that.
-       Without a greatest size in pages it is what addresses reach, or the least size if that is
-       more. */
+       Without a greatest size in pages it is what addresses reach (2^32, or a page less than
+       2^64), or the least size if that is more. */
     uint64_t maximum_bytes;
     uint8_t page_size_log2; /* The page size as an exponent of 2: 0 or 16. */
     uint8_t shared;         /* Whether threads may share it. */
@@ -445,7 +452,7 @@ typedef struct {
     uint64_t offset;
 } bobbinazure_segment;
 
-/* A passive data segment that keeps its bytes. */
+/* A passive data segment, also an empty one. */
 typedef struct {
     uint32_t segment; /* Its number in the data section. */
     uint32_t runtime; /* The runtime data that holds its bytes. */
@@ -508,7 +515,8 @@ typedef struct {
 
 /* A branch hint. */
 typedef struct {
-    /* The function, by the index that the section names. Nothing checks it, or the offset. */
+    /* The function, by its index. Hints of a function that the module has not are left out;
+       nothing checks the offset. */
     uint32_t function;
     /* Where the branch is, in bytes from the beginning of the function's body, which begins with
        its locals. */
@@ -554,7 +562,7 @@ typedef struct {
     uint32_t size;
     uint32_t align;          /* The alignment of an object, in bytes. */
     uint32_t element;        /* The bytes of an element of an array. */
-    /* Whether the elements of an array are references that are collected. */
+    /* Whether the collector follows the elements of an array, as is_ref of a field. */
     uint32_t refs;
     bobbinazure_span fields; /* Its fields, a part of layout_fields. */
 } bobbinazure_layout;
@@ -562,7 +570,9 @@ typedef struct {
 /* A field of a layout. */
 typedef struct {
     uint32_t offset; /* Where in the object it begins, in bytes. */
-    uint32_t is_ref; /* Whether it is a reference that is collected: it has four bytes. */
+    /* Whether the collector follows it: a reference, but not to i31, functions or continuations.
+       Any reference has four bytes. */
+    uint32_t is_ref;
 } bobbinazure_layout_field;
 
 /* An interned type. */
@@ -648,7 +658,9 @@ typedef struct {
     uint32_t from_size;  /* The size of from. */
     uint32_t vmctx;      /* The pointer to the context that has it. */
     uint32_t vmctx_size; /* The size of vmctx. */
-    uint32_t kind;       /* What that context is, a number of 32 bits and a payload of 32 bits. */
+    /* What that context is, a number of 32 bits of the engine's choice, and a payload of 32
+       bits. */
+    uint32_t kind;
     uint32_t kind_size;  /* The size of kind. */
 } bobbinazure_global_import_layout;
 
@@ -718,7 +730,8 @@ typedef struct {
    bytes. */
 typedef struct {
     uint32_t size;                   /* Where what depends on the module begins. */
-    uint32_t magic;                  /* The number by which a context is recognised. */
+    /* The number by which the engine recognises a context, of its choice. */
+    uint32_t magic;
     uint32_t magic_size;             /* The size of magic. */
     uint32_t store_context;          /* The pointer to the context of the store. */
     uint32_t store_context_size;     /* The size of store_context. */
@@ -809,7 +822,7 @@ typedef struct {
     uint32_t refusal_detail;
     /* The line of the refusal, as the program prints it. It is never freed. */
     bobbinazure_bytes refusal_line;
-    bobbinazure_entities entities;                              /* How many entities there are. */
+    bobbinazure_entities entities;                /* How many entities there are. */
     /* When the startup function runs, from BOBBINAZURE_STARTUP_NONE on: never, always, or where
        a memory does not begin as its image. */
     uint32_t startup;
@@ -817,13 +830,13 @@ typedef struct {
     uint32_t startup_type;
     /* Whether memories begin as images. There may be no image all the same. */
     uint32_t images_made;
-    /* How many interned types there are. */
-    uint32_t types;
+    uint32_t types;                               /* How many interned types there are. */
     /* The alignment of images, in bytes; 0 where images_made is 0. */
     uint64_t data_align;
     /* The index of the start function; BOBBINAZURE_NONE where there is none. */
     uint32_t start;
-    /* Whether a table can hold references that are collected. */
+    /* Whether a defined table can hold references that are collected. Where it is 0, imported
+       tables, globals and code may still need a heap. */
     uint32_t needs_gc_heap;
     /* How many functions escape, so that the context has a reference to each. */
     uint64_t escaped_functions;
@@ -840,8 +853,7 @@ typedef struct {
     bobbinazure_context context;
     /* The interned type of each type of the type section. */
     BOBBINAZURE_LIST(uint32_t) declared;
-    /* The recursion groups of interned types. */
-    BOBBINAZURE_LIST(bobbinazure_range) groups;
+    BOBBINAZURE_LIST(bobbinazure_range) groups;   /* The recursion groups of interned types. */
     /* The interned type of each function, imported ones first. */
     BOBBINAZURE_LIST(uint32_t) functions;
     /* The index of each function among those that escape; BOBBINAZURE_NONE of one that does not. */
@@ -858,8 +870,7 @@ typedef struct {
     /* The range of each runtime data; the ranges are end to end from 0. Images have whole pages,
        so each of their ranges begins at a multiple of data_align. */
     BOBBINAZURE_LIST(bobbinazure_range) runtime_ranges;
-    /* The images of memories, by ascending memory. */
-    BOBBINAZURE_LIST(bobbinazure_image) images;
+    BOBBINAZURE_LIST(bobbinazure_image) images;   /* The images of memories, by ascending memory. */
     /* What startup writes to memories, in order: data segments, or, where images are made, each
        of the images. An engine leaves out an image that it maps. */
     BOBBINAZURE_LIST(bobbinazure_segment) segments;
@@ -875,8 +886,11 @@ typedef struct {
     BOBBINAZURE_LIST(bobbinazure_region) regions;
     /* The passive element segments, in order. */
     BOBBINAZURE_LIST(bobbinazure_passive_elements) passive_elements;
-    BOBBINAZURE_LIST(bobbinazure_function_name) function_names; /* The names of functions. */
-    /* The functions that have hints of branches. */
+    /* The names of functions, ascending, for each the last one. A function has a name only where
+       it is declared before the section of names; bobbinazure_names gives all. */
+    BOBBINAZURE_LIST(bobbinazure_function_name) function_names;
+    /* The functions that have an entry in the hints of branches, ascending. The last section
+       without a fault counts, and in it the first entry of each. */
     BOBBINAZURE_LIST(bobbinazure_hints) hints;
     /* The branch hints, function by function, those of a function in the order of the section. */
     BOBBINAZURE_LIST(bobbinazure_branch_hint) branch_hints;
@@ -887,46 +901,39 @@ typedef struct {
     /* The defined globals that begin as the value of an expression, each by its number among the
        defined ones. */
     BOBBINAZURE_LIST(uint32_t) expressed_globals;
-    /* The expression of each of expressed_globals. */
-    bobbinazure_expressions global_expressions;
+    bobbinazure_expressions global_expressions;   /* The expression of each of expressed_globals. */
     /* The offset of each of segments, as an expression; it has no operators where the offset is
        planned. */
     bobbinazure_expressions segment_places;
     /* The offset of each of elements, as an expression. */
     bobbinazure_expressions element_places;
     /* The first value of the cells of each defined table; it has no operators where they begin
-       as null, or as table_images says. */
+       as null, or as table_images says. With lazy_tables an initialiser that became an image is
+       in no list: plan without that option to see what was written. */
     bobbinazure_expressions table_values;
-    BOBBINAZURE_LIST(bobbinazure_import) imports;               /* The imports, in order. */
-    /* The names of imports, end to end, in UTF-8. */
-    BOBBINAZURE_LIST(uint8_t) import_names;
-    BOBBINAZURE_LIST(bobbinazure_export) exports;               /* The exports, in order. */
-    /* The names of exports, end to end, in UTF-8. */
-    BOBBINAZURE_LIST(uint8_t) export_names;
+    BOBBINAZURE_LIST(bobbinazure_import) imports; /* The imports, in order. */
+    BOBBINAZURE_LIST(uint8_t) import_names;       /* The names of imports, end to end, in UTF-8. */
+    BOBBINAZURE_LIST(bobbinazure_export) exports; /* The exports, in order. */
+    BOBBINAZURE_LIST(uint8_t) export_names;       /* The names of exports, end to end, in UTF-8. */
     /* The module's name, if it has one, a part of module_text. */
     BOBBINAZURE_LIST(bobbinazure_span) module_names;
     /* The layouts of the objects of interned types that have some, by ascending type. */
     BOBBINAZURE_LIST(bobbinazure_layout) layouts;
     /* The fields of layouts, end to end. */
     BOBBINAZURE_LIST(bobbinazure_layout_field) layout_fields;
-    BOBBINAZURE_LIST(bobbinazure_type) interned;                /* The interned types. */
-    /* The fields of interned types, end to end. */
-    BOBBINAZURE_LIST(bobbinazure_field) fields;
+    BOBBINAZURE_LIST(bobbinazure_type) interned;  /* The interned types. */
+    BOBBINAZURE_LIST(bobbinazure_field) fields;   /* The fields of interned types, end to end. */
     /* The interned types that have a trampoline, in order. */
     BOBBINAZURE_LIST(bobbinazure_trampoline) trampolines;
-    /* The text of the module's name, in UTF-8. */
-    BOBBINAZURE_LIST(uint8_t) module_text;
+    BOBBINAZURE_LIST(uint8_t) module_text;        /* The text of the module's name, in UTF-8. */
     /* The sizes of the structs that compiled code reads, and where their fields begin. */
     bobbinazure_structs structs;
-    bobbinazure_element_items element_items;                    /* The items of each of elements. */
-    /* The items of each of passive_elements. */
-    bobbinazure_element_items passive_items;
-    /* The body of each defined function, in order. */
-    BOBBINAZURE_LIST(bobbinazure_body) bodies;
+    bobbinazure_element_items element_items;      /* The items of each of elements. */
+    bobbinazure_element_items passive_items;      /* The items of each of passive_elements. */
+    BOBBINAZURE_LIST(bobbinazure_body) bodies;    /* The body of each defined function, in order. */
     /* The locals of bodies, end to end, in runs of one type. */
     BOBBINAZURE_LIST(bobbinazure_locals) locals;
-    /* How many functions are imported. */
-    uint32_t imported_func_count;
+    uint32_t imported_func_count;                 /* How many functions are imported. */
     /* The names of locals from the custom section name, by functions and then by locals. This
        list and the next two are empty without native_debug. */
     BOBBINAZURE_LIST(bobbinazure_local_name) local_names;
@@ -1071,8 +1078,8 @@ typedef struct {
     /* The number of the module at which the program is refused, from 0 on; 0 where it is linked. */
     size_t refused;
     BOBBINAZURE_LIST(bobbinazure_linked_module) modules; /* The modules, in order. */
-    /* The engine's index of each interned type, module by module. Two types have one index
-       exactly where they are equal. */
+    /* The index of each interned type in the registry of the call, module by module; another
+       call counts anew. Two types have one index exactly where they are equal. */
     BOBBINAZURE_LIST(uint32_t) types;
     /* The answer to each import, module by module. */
     BOBBINAZURE_LIST(bobbinazure_program_answer) answers;
@@ -1158,7 +1165,8 @@ typedef struct {
 typedef struct {
     uint32_t id;       /* The id; no section of a module has one above 13. */
     uint32_t start;    /* The offset of the section, which begins with its id. */
-    /* The offset of its contents. Those of a custom section begin with its name. */
+    /* The offset of its contents. Those of a custom section begin with its name; what follows
+       goes from the end of name up to contents + size. */
     uint32_t contents;
     uint32_t size;     /* The length of its contents, in bytes. */
     uint32_t has_name; /* Whether it is a custom section, with a name. */
@@ -1200,6 +1208,9 @@ uint32_t bobbinazure_make_plan_and_text(const uint8_t *bytes, size_t len, const 
 
 /* Links the imports of a module, `importer`, to the exports of another, `exporter`.
  *
+ * An export matches as the exporter declares it: by equal types, and by the sizes that are declared,
+ * not those that a memory or a table has grown to.
+ *
  * The exports are known under the module name at `as_module`: UTF-8 without a zero at the end. Both
  * modules are planned with the options. `links` must come from bobbinazure_link_init. It does not
  * point into the bytes of the modules.
@@ -1215,7 +1226,7 @@ uint32_t bobbinazure_link(const uint8_t *exporter, size_t exporter_len, const ui
 
 /* Links the modules of a program, in order: the imports of each are given by the exports of those
  * before it, under their module names. An import that is not given refuses nothing: its answer says
- * so.
+ * so. An export matches as its module declares it, also where that module imports it.
  *
  * The types of all modules are registered together, in a registry of the call: two types have one
  * index exactly where they are equal. All modules are planned with the options. The names are UTF-8
@@ -1302,8 +1313,9 @@ uint32_t bobbinazure_memory_may_move(const bobbinazure_memory *memory, uint64_t 
 uint32_t bobbinazure_can_elide_bounds_check(const bobbinazure_memory *memory, uint64_t reservation,
                                             uint64_t guard_size, uint32_t host_page_size_log2);
 
-/* Whether a memory may grow to a size in bytes: 1, or 0. One of pages of one byte and addresses of 32
- * bits may not reach 4294967295 bytes: `memory.grow` answers that number where it fails. */
+/* Whether a size in bytes is one that `memory.grow` can tell from a failure: 1, or 0. It fails with
+ * 4294967295, so a memory of pages of one byte and addresses of 32 bits may not reach that size. The
+ * maximum is not looked at: compare `maximum_bytes` as well. */
 uint32_t bobbinazure_memory_allows_growth_to(const bobbinazure_memory *memory, uint64_t size);
 
 /* Gives the data and the element segments of a module as they stand in it, also those that a plan
@@ -1321,8 +1333,8 @@ uint32_t bobbinazure_segments(const uint8_t *bytes, size_t len, bobbinazure_segm
 /* The version of the library: 10000 * major + 100 * minor + patch. */
 uint32_t bobbinazure_version(void);
 
-/* The offset in the module of bytes that a plan has from it: the code of a body, a segment, a
- * name. */
+/* The offset in the module of bytes that a plan points to there: the bytes or the code of a body, the
+ * name of a function or a local, a segment, runtime data that were not made. */
 static inline size_t bobbinazure_offset(const uint8_t *module, bobbinazure_bytes part) {
     return (size_t)(part.at - module);
 }
@@ -1341,7 +1353,7 @@ static inline const bobbinazure_layout *bobbinazure_layout_of(const bobbinazure_
 
 /* The passive element segment at this index in the element section, which table.init and elem.drop
  * name: its place in `passive_elements` and `passive_items`. BOBBINAZURE_NONE where that segment is
- * not passive. */
+ * not passive, so that it is empty once the module is instantiated, and where there is none. */
 static inline uint32_t bobbinazure_passive_elements_of(const bobbinazure_plan *plan, uint32_t segment) {
     size_t low = 0, high = plan->passive_segments.len;
     while (low < high) {
@@ -1354,7 +1366,8 @@ static inline uint32_t bobbinazure_passive_elements_of(const bobbinazure_plan *p
 }
 
 /* The runtime data of the passive data segment at this index in the data section, which memory.init
- * and data.drop name. BOBBINAZURE_NONE where that segment is not passive. */
+ * and data.drop name. BOBBINAZURE_NONE where that segment is not passive, so that it is empty once the
+ * module is instantiated, and where there is none. */
 static inline uint32_t bobbinazure_passive_data_of(const bobbinazure_plan *plan, uint32_t segment) {
     size_t low = 0, high = plan->passive.len;
     while (low < high) {

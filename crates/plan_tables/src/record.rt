@@ -190,9 +190,11 @@ pub struct DebugRecord<'d> {
 pub struct FunctionsRecord<'d> {
     /// The passive element segments, in order.
     pub passive_elements: &'d [PassiveElementsRow],
-    /// The names of functions: `function_names`.
+    /// The names of functions, ascending, for each the last one. A function has a name only where it is
+    /// declared before the section of names; `bobbinazure_names` gives all: `function_names`.
     pub names: &'d [FunctionNameRow<'d>],
-    /// The functions that have hints of branches.
+    /// The functions that have an entry in the hints of branches, ascending. The last section without a
+    /// fault counts, and in it the first entry of each.
     pub hints: &'d [HintsRow],
     /// The branch hints, function by function, those of a function in the order of the section.
     pub branch_hints: &'d [BranchHintRow],
@@ -265,7 +267,8 @@ pub struct PlacesRecord<'d> {
     /// The offset of each of `elements`, as an expression: `element_places`.
     pub elements: ExpressionsRecord<'d>,
     /// The first value of the cells of each defined table; it has no operators where they begin as
-    /// null, or as `table_images` says: `table_values`.
+    /// null, or as `table_images` says. With `lazy_tables` an initialiser that became an image is in no
+    /// list: plan without that option to see what was written: `table_values`.
     pub tables: ExpressionsRecord<'d>,
 }
 

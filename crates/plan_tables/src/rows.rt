@@ -48,7 +48,8 @@ pub struct Facts {
     pub data_align: u64,
     /// The index of the start function; `u32::MAX` where there is none.
     pub start: u32,
-    /// Whether a table can hold references that are collected.
+    /// Whether a defined table can hold references that are collected. Where it is 0, imported tables,
+    /// globals and code may still need a heap.
     pub needs_gc_heap: u32,
     /// How many functions escape, so that the context has a reference to each: `escaped_functions`.
     pub escaped: u64,
@@ -63,7 +64,10 @@ pub struct Facts {
     pub pointer: u32,
 }
 
-/// Where the parts of a context begin, in bytes: `bobbinazure_context`.
+/// Where the parts of a context begin, in bytes. A part has an entry for each thing that it is of, in
+/// order, each as long as its struct in `structs` says. An entry of `memories` and
+/// `runtime_data_bases` is a pointer, and one of `runtime_data_lengths` has four bytes. Those of
+/// `func_refs` are numbered by `escapes`: `bobbinazure_context`.
 #[repr(C)]
 #[derive(Clone, Copy)]
 pub struct Context {
@@ -71,9 +75,9 @@ pub struct Context {
     pub size: u32,
     /// The imported memories.
     pub imported_memories: u32,
-    /// The pointers to the defined memories.
+    /// The pointers to the definitions of the defined memories.
     pub memories: u32,
-    /// The defined memories that are not shared.
+    /// The definitions of the defined memories that are not shared.
     pub owned_memories: u32,
     /// The imported functions.
     pub imported_functions: u32,
@@ -147,7 +151,8 @@ pub struct MemoryRow {
     /// The least size, in bytes; `u64::MAX` where it has more bytes than that.
     pub minimum_bytes: u64,
     /// The greatest size, in bytes; `u64::MAX` where it has more bytes than that. Without a greatest
-    /// size in pages it is what addresses reach, or the least size if that is more.
+    /// size in pages it is what addresses reach (2^32, or a page less than 2^64), or the least size if
+    /// that is more.
     pub maximum_bytes: u64,
     /// The page size as an exponent of 2: 0 or 16.
     pub page_size_log2: u8,
@@ -224,7 +229,7 @@ pub struct SegmentRow {
     pub offset: u64,
 }
 
-/// A passive data segment that keeps its bytes: `bobbinazure_passive`.
+/// A passive data segment, also an empty one: `bobbinazure_passive`.
 #[repr(C)]
 #[derive(Clone, Copy)]
 pub struct PassiveRow {
@@ -317,7 +322,8 @@ pub struct HintsRow {
 #[repr(C)]
 #[derive(Clone, Copy)]
 pub struct BranchHintRow {
-    /// The function, by the index that the section names. Nothing checks it, or the offset.
+    /// The function, by its index. Hints of a function that the module has not are left out; nothing
+    /// checks the offset.
     pub function: u32,
     /// Where the branch is, in bytes from the beginning of the function's body, which begins with
     /// its locals.
@@ -387,7 +393,7 @@ pub struct LayoutRow {
     pub align: u32,
     /// The bytes of an element of an array.
     pub element: u32,
-    /// Whether the elements of an array are references that are collected.
+    /// Whether the collector follows the elements of an array, as `is_ref` of a field.
     pub refs: u32,
     /// Its fields, a part of `layout_fields`.
     pub fields: Span,
@@ -399,7 +405,8 @@ pub struct LayoutRow {
 pub struct LayoutFieldRow {
     /// Where in the object it begins, in bytes.
     pub offset: u32,
-    /// Whether it is a reference that is collected: it has four bytes.
+    /// Whether the collector follows it: a reference, but not to `i31`, functions or continuations. Any
+    /// reference has four bytes.
     pub is_ref: u32,
 }
 

@@ -102,7 +102,7 @@ pub struct GlobalImportLayout {
     pub vmctx: u32,
     /// The size of `vmctx`.
     pub vmctx_size: u32,
-    /// What that context is, a number of 32 bits and a payload of 32 bits.
+    /// What that context is, a number of 32 bits of the engine's choice, and a payload of 32 bits.
     pub kind: u32,
     /// The size of `kind`.
     pub kind_size: u32,
@@ -229,7 +229,7 @@ pub struct StoreContextLayout {
 pub struct StaticContextLayout {
     /// Where what depends on the module begins.
     pub size: u32,
-    /// The number by which a context is recognised.
+    /// The number by which the engine recognises a context, of its choice.
     pub magic: u32,
     /// The size of `magic`.
     pub magic_size: u32,

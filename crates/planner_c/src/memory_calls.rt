@@ -54,9 +54,9 @@ pub extern "C" fn bobbinazure_can_elide_bounds_check(
     u32::from(is_mapped && memory.wide == 0 && guarded >= REACHED)
 }
 
-/// Whether a memory may grow to a size in bytes: `bobbinazure_memory_allows_growth_to`. One of pages
-/// of one byte and addresses of 32 bits may not reach 4294967295 bytes: `memory.grow` answers that
-/// number where it fails.
+/// Whether a size in bytes is one that `memory.grow` can tell from a failure:
+/// `bobbinazure_memory_allows_growth_to`. It fails with 4294967295, so a memory of pages of one byte
+/// and addresses of 32 bits may not reach that size. The maximum is not looked at.
 /// Answers 1 or 0.
 #[unsafe(no_mangle)]
 pub extern "C" fn bobbinazure_memory_allows_growth_to(memory: &MemoryRow, size: u64) -> u32

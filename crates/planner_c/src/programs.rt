@@ -56,7 +56,8 @@ pub struct ProgramRecord<'d> {
     pub refused: usize,
     /// The modules, in order.
     pub modules: &'d [LinkedModuleRecord],
-    /// The engine's index of each interned type, module by module. Two types have one index exactly
+    /// The index of each interned type in the registry of the call, module by module; another call
+    /// counts anew. Two types have one index exactly
     /// where they are equal.
     pub types: &'d [u32],
     /// The answer to each import, module by module.

@@ -16,7 +16,8 @@ pub struct SectionRow<'d> {
     pub id: u32,
     /// The offset of the section, which begins with its id.
     pub start: u32,
-    /// The offset of its contents. Those of a custom section begin with its name.
+    /// The offset of its contents. Those of a custom section begin with its name; what follows goes from
+    /// the end of `name` up to `contents + size`.
     pub contents: u32,
     /// The length of its contents, in bytes.
     pub size: u32,

@@ -56,7 +56,7 @@ pub struct Module {
     pub num_imported_globals: usize,
     /// How many of the tags are imported.
     pub num_imported_tags: usize,
-    /// Whether a table of the module can hold references that are collected.
+    /// Whether a defined table of the module can hold references that are collected.
     pub needs_gc_heap: bool,
     /// How many functions escape.
     pub num_escaped_funcs: usize,

@@ -214,8 +214,9 @@ impl Memory {
         bobbinazure_can_elide_bounds_check(self, reservation, guard_size, u32::from(host_page_size_log2)) != 0
     }
 
-    /// Whether the memory may grow to a size in bytes. One of pages of one byte and addresses of 32
-    /// bits may not reach 4294967295 bytes: `memory.grow` answers that number where it fails.
+    /// Whether a size in bytes is one that `memory.grow` can tell from a failure. It fails with
+    /// 4294967295, so a memory of pages of one byte and addresses of 32 bits may not reach that size.
+    /// The maximum is not looked at: compare `maximum_bytes` as well.
     ///
     /// ```
     /// # use bobbinazure::Memory;

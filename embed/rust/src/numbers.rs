@@ -337,7 +337,7 @@ pub const NULL_ARRAY_LENGTH: u32 = 8;
 pub const NULL_TAG_INSTANCE: u32 = 8;
 /// null tag defined
 pub const NULL_TAG_DEFINED: u32 = 12;
-/// in the header: the kind of the object
+/// in the header: the kind of the object, a number of 32 bits of the engine's choice
 pub const HEADER_KIND: u32 = 0;
 /// in the header: its type, by the index of the engine
 pub const HEADER_TYPE_INDEX: u32 = 4;
@@ -350,8 +350,6 @@ pub const GIVEN: u32 = 0;
 pub const MISSING: u32 = 1;
 /// detail: the first broken rule, of the next enum; line: its text
 pub const MISMATCH: u32 = 2;
-
-// The rules by which an export matches an import, in the order in which they are checked.
 
 /// mismatch kind
 pub const MISMATCH_KIND: u32 = 1;

@@ -218,7 +218,8 @@ impl Plan<'_> {
         self.record.code_section_offset
     }
 
-    /// Whether a table can hold references that are collected.
+    /// Whether a defined table can hold references that are collected. Where not, imported tables,
+    /// globals and code may still need a heap.
     ///
     /// ```
     /// # let bytes = std::fs::read(concat!(env!("CARGO_MANIFEST_DIR"), "/../../examples/linked.wasm"))?;

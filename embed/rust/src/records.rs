@@ -52,7 +52,8 @@ pub(crate) struct PlanRecord {
     pub(crate) data_align: u64,
     /// The index of the start function; `u32::MAX` where there is none.
     pub(crate) start: u32,
-    /// Whether a table can hold references that are collected.
+    /// Whether a defined table can hold references that are collected. Where it is 0, imported
+    /// tables, globals and code may still need a heap.
     pub(crate) needs_gc_heap: u32,
     /// How many functions escape, so that the context has a reference to each.
     pub(crate) escaped_functions: u64,
@@ -104,9 +105,11 @@ pub(crate) struct PlanRecord {
     pub(crate) regions: List<Region>,
     /// The passive element segments, in order.
     pub(crate) passive_elements: List<PassiveElements>,
-    /// The names of functions.
+    /// The names of functions, ascending, for each the last one. A function has a name only where
+    /// it is declared before the section of names; `bobbinazure_names` gives all.
     pub(crate) function_names: List<FunctionName>,
-    /// The functions that have hints of branches.
+    /// The functions that have an entry in the hints of branches, ascending. The last section
+    /// without a fault counts, and in it the first entry of each.
     pub(crate) hints: List<Hints>,
     /// The branch hints, function by function, those of a function in the order of the section.
     pub(crate) branch_hints: List<BranchHint>,
@@ -125,7 +128,8 @@ pub(crate) struct PlanRecord {
     /// The offset of each of `elements`, as an expression.
     pub(crate) element_places: ExpressionsRecord,
     /// The first value of the cells of each defined table; it has no operators where they begin as
-    /// null, or as `table_images` says.
+    /// null, or as `table_images` says. With `lazy_tables` an initialiser that became an image is
+    /// in no list: plan without that option to see what was written.
     pub(crate) table_values: ExpressionsRecord,
     /// The imports, in order.
     pub(crate) imports: List<Import>,
@@ -354,7 +358,8 @@ pub(crate) struct ProgramRecord {
     pub(crate) refused: usize,
     /// The modules, in order.
     pub(crate) modules: List<LinkedModule>,
-    /// The engine's index of each interned type, module by module. Two types have one index exactly
+    /// The index of each interned type in the registry of the call, module by module; another call
+    /// counts anew. Two types have one index exactly
     /// where they are equal.
     pub(crate) types: List<u32>,
     /// The answer to each import, module by module.

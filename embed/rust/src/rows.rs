@@ -58,7 +58,10 @@ pub struct Entities {
     pub imported_tags: u64,
 }
 
-/// Where the parts of a context begin, in bytes.
+/// Where the parts of a context begin, in bytes. A part has an entry for each thing that it is of,
+/// in order, each as long as its struct in `structs` says. An entry of `memories` and
+/// `runtime_data_bases` is a pointer, and one of `runtime_data_lengths` has four bytes. Those of
+/// `func_refs` are numbered by `escapes`.
 #[repr(C)]
 #[derive(Clone, Copy, Debug, PartialEq, Eq, Hash, Default)]
 pub struct Context {
@@ -66,9 +69,9 @@ pub struct Context {
     pub size: u32,
     /// The imported memories.
     pub imported_memories: u32,
-    /// The pointers to the defined memories.
+    /// The pointers to the definitions of the defined memories.
     pub memories: u32,
-    /// The defined memories that are not shared.
+    /// The definitions of the defined memories that are not shared.
     pub owned_memories: u32,
     /// The imported functions.
     pub imported_functions: u32,
@@ -142,7 +145,8 @@ pub struct Memory {
     /// The least size, in bytes; `u64::MAX` where it has more bytes than that.
     pub minimum_bytes: u64,
     /// The greatest size, in bytes; `u64::MAX` where it has more bytes than that. Without a
-    /// greatest size in pages it is what addresses reach, or the least size if that is more.
+    /// greatest size in pages it is what addresses reach (2^32, or a page less than 2^64), or the
+    /// least size if that is more.
     pub maximum_bytes: u64,
     /// The page size as an exponent of 2: 0 or 16.
     pub page_size_log2: u8,
@@ -219,7 +223,7 @@ pub struct Segment {
     pub offset: u64,
 }
 
-/// A passive data segment that keeps its bytes.
+/// A passive data segment, also an empty one.
 #[repr(C)]
 #[derive(Clone, Copy, Debug, PartialEq, Eq, Hash, Default)]
 pub struct Passive {
@@ -314,7 +318,8 @@ pub struct Hints {
 #[repr(C)]
 #[derive(Clone, Copy, Debug, PartialEq, Eq, Hash, Default)]
 pub struct BranchHint {
-    /// The function, by the index that the section names. Nothing checks it, or the offset.
+    /// The function, by its index. Hints of a function that the module has not are left out;
+    /// nothing checks the offset.
     pub function: u32,
     /// Where the branch is, in bytes from the beginning of the function's body, which begins with
     /// its locals.
@@ -384,7 +389,7 @@ pub struct Layout {
     pub align: u32,
     /// The bytes of an element of an array.
     pub element: u32,
-    /// Whether the elements of an array are references that are collected.
+    /// Whether the collector follows the elements of an array, as `is_ref` of a field.
     pub refs: u32,
     /// Its fields, a part of `layout_fields`.
     pub fields: Span,
@@ -396,7 +401,8 @@ pub struct Layout {
 pub struct LayoutField {
     /// Where in the object it begins, in bytes.
     pub offset: u32,
-    /// Whether it is a reference that is collected: it has four bytes.
+    /// Whether the collector follows it: a reference, but not to `i31`, functions or continuations.
+    /// Any reference has four bytes.
     pub is_ref: u32,
 }
 
@@ -546,7 +552,7 @@ pub struct GlobalImportLayout {
     pub vmctx: u32,
     /// The size of `vmctx`.
     pub vmctx_size: u32,
-    /// What that context is, a number of 32 bits and a payload of 32 bits.
+    /// What that context is, a number of 32 bits of the engine's choice, and a payload of 32 bits.
     pub kind: u32,
     /// The size of `kind`.
     pub kind_size: u32,
@@ -673,7 +679,7 @@ pub struct StoreContextLayout {
 pub struct StaticContextLayout {
     /// Where what depends on the module begins.
     pub size: u32,
-    /// The number by which a context is recognised.
+    /// The number by which the engine recognises a context, of its choice.
     pub magic: u32,
     /// The size of `magic`.
     pub magic_size: u32,
@@ -933,7 +939,8 @@ pub struct Section {
     pub id: u32,
     /// The offset of the section, which begins with its id.
     pub start: u32,
-    /// The offset of its contents. Those of a custom section begin with its name.
+    /// The offset of its contents. Those of a custom section begin with its name; what follows goes
+    /// from the end of `name` up to `contents + size`.
     pub contents: u32,
     /// The length of its contents, in bytes.
     pub size: u32,

@@ -73,7 +73,7 @@ pub struct PassiveElements<'p> {
 pub enum Items<'p> {
     /// Functions, by their indices.
     Functions(&'p [u32]),
-    /// Constant expressions, at least one.
+    /// Constant expressions.
     Expressions(Expressions<'p>),
 }
 
@@ -143,8 +143,7 @@ fn items(record: &ElementItemsRecord, place: usize) -> Items<'_> {
 }
 
 impl Plan<'_> {
-    /// The passive data segments that keep their bytes: what `memory.init` and `data.drop` name.
-    /// One without bytes is not among them.
+    /// The passive data segments, also empty ones: what `memory.init` and `data.drop` name.
     ///
     /// ```
     /// # let bytes = std::fs::read(concat!(env!("CARGO_MANIFEST_DIR"), "/../../examples/linked.wasm"))?;

@@ -230,7 +230,9 @@ impl Plan<'_> {
         self.record.table_images.as_slice().iter().map(move |span| part(cells, *span))
     }
 
-    /// The first value of the cells of each defined table; `None` where they begin as null.
+    /// The first value of the cells of each defined table; `None` where they begin as null, or as
+    /// [`table_images`](Self::table_images) says. With `lazy_tables` an initialiser that became an image
+    /// is in no list: plan without that option to see what was written.
     ///
     /// ```
     /// # let bytes = std::fs::read(concat!(env!("CARGO_MANIFEST_DIR"), "/../../examples/linked.wasm"))?;
@@ -263,7 +265,7 @@ impl Plan<'_> {
         values.chain(expressed.map(|(place, global)| (*global, GlobalInit::Expr(ConstExpr(operators(&self.record.global_expressions, place))))))
     }
 
-    /// How many hints of branches each function has that has some.
+    /// How many hints of branches each function has that has an entry among them, ascending.
     ///
     /// ```
     /// # let bytes = std::fs::read(concat!(env!("CARGO_MANIFEST_DIR"), "/../../examples/linked.wasm"))?;
