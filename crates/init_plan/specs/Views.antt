@@ -126,7 +126,7 @@ memory_plan_of t = record {
 
 -- the ranges of runtime data, from and up to
 abbrev pub ranges_of : Module → List (ℕ × ℕ)
-ranges_of m = (record_of m).runtime_data
+ranges_of m = map (λ range. (range.start, range.end)) m.runtime_data
 
 abbrev pub IsSegmented : MemoryInitialization → Type 0
 IsSegmented initialization.Segmented = Unit {0}

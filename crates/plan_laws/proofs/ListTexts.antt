@@ -38,7 +38,7 @@ use Rattle.wasm_module.specs.declared.table_initialization.TableInitialValue.{Ta
 use Rattle.wasm_module.specs.declared.table_initialization.TableInitialValue.TheVariants as initial
 use Rattle.wasm_module.specs.declared.table_initialization.TableSegment.{TableSegment}
 use Rattle.wasm_module.specs.Elements.{element_count}
-use Rattle.wasm_module.specs.Record.{ModuleRecord}
+use Rattle.wasm_module.specs.declared.module.Module.{Module}
 use Rattle.gc_layout.specs.declared.object.GcLayout.{GcLayout}
 use Rattle.gc_layout.specs.declared.object.GcLayout.TheVariants as layout
 use Rattle.init_plan.specs.declared.debug_info.BranchHint.{BranchHint}
@@ -147,7 +147,7 @@ import-lines-short pool n (Import name field e ∷ imports) few all =
     (54 + 3 * (name_bytes pool name + name_bytes pool field)) (128 * length imports + 3 * sum_by (import_bytes pool) imports) one others in
     omega (arith, both, sum_by-cons (import_bytes pool) (Import name field e) imports)
 
-pub count-lines-short : (m : ModuleRecord) → m.num_imported_funcs < 2 ^ 64 → m.num_imported_tables < 2 ^ 64 → m.num_imported_memories < 2 ^ 64 → m.num_imported_globals < 2 ^ 64
+pub count-lines-short : (m : Module) → m.num_imported_funcs < 2 ^ 64 → m.num_imported_tables < 2 ^ 64 → m.num_imported_memories < 2 ^ 64 → m.num_imported_globals < 2 ^ 64
     → m.num_imported_tags < 2 ^ 64 → length m.functions < 2 ^ 32 → length m.tables < 2 ^ 32 → length m.memories < 2 ^ 32 → length m.globals < 2 ^ 32 → length m.tags < 2 ^ 32
     → length (count_lines m) ≤ 640
 unfolding count_lines

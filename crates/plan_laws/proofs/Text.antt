@@ -15,7 +15,6 @@ use Rattle.wasm_index.specs.declared.spaces.ModuleInternedTypeSpace.{ModuleInter
 use Rattle.wasm_index.specs.declared.spaces.RuntimeDataSpace.{RuntimeDataSpace}
 use Rattle.wasm_index.specs.Index.{number_of, index_of}
 use Rattle.wasm_types.specs.declared.entity.EntityIndex.{EntityIndex}
-use Rattle.wasm_module.specs.Record.{record_of}
 use Rattle.wasm_module.specs.Elements.{element_count}
 use Rattle.wasm_module.specs.declared.function.FunctionType.{FunctionType}
 use Rattle.wasm_module.specs.declared.initializer.Initializer.{Initializer}
@@ -100,7 +99,7 @@ module _ (x y : Module) (same : SameModule x y) where
       lines-by (resolved_export x.strings) _ exported_line (export-by x.strings) x.exports.entries ∙ ap (flat_map exported_line) same.exports
       ∙ sym (lines-by (resolved_export y.strings) _ exported_line (export-by y.strings) y.exports.entries)
 
-  counts : count_lines (record_of x) ≡ count_lines (record_of y)
+  counts : count_lines x ≡ count_lines y
   unfolding count_lines
   counts = λ i.
       counts_line (codes "functions") (same.num_imported_funcs i) (length (same.functions i))

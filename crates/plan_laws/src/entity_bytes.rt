@@ -8,7 +8,6 @@ ghost use Rattle.wasm_index.specs.declared.index.Index.{Index};
 ghost use Rattle.wasm_index.specs.declared.spaces.FuncSpace.{FuncSpace};
 ghost use Rattle.wasm_index.specs.Index.{number_of, index_of};
 ghost use Rattle.wasm_module.specs.declared.function.FunctionType.{FunctionType};
-ghost use Rattle.wasm_module.specs.Record.{record_of};
 ghost use Rattle.init_plan.specs.Views.{hints_of};
 ghost use Rattle.plan_lines.specs.HintLines.{hint_lines, function_hints};
 ghost use Rattle.plan_lines.specs.ModuleLines.{initializer_lines_from, count_lines, escape_lines, start_lines, startup_line};
@@ -93,7 +92,7 @@ fn imported(count: usize)
 
 /// The counts of the entities.
 pub(crate) fn counts(module: &Module)
-    ensures { length (count_lines (record_of «module».now)) ≤ 640 }
+    ensures { length (count_lines «module».now) ≤ 640 }
 {
     imported(module.num_imported_funcs);
     imported(module.num_imported_tables);

@@ -9,7 +9,7 @@ use Rattle.wasm_module.specs.declared.initializer.Initializer.{Initializer}
 use Rattle.wasm_module.specs.declared.initializer.Initializer.TheVariants.{Import}
 use Rattle.wasm_module.specs.declared.startup.ModuleStartup.{ModuleStartup}
 use Rattle.wasm_module.specs.declared.startup.ModuleStartup.TheVariants as startup
-use Rattle.wasm_module.specs.Record.{ModuleRecord}
+use Rattle.wasm_module.specs.declared.module.Module.{Module}
 use Rattle.plan_lines.specs.Numbers.{numbers_line, counts_line}
 use Rattle.plan_lines.specs.NameLines.{IsInPool, import_line}
 use Rattle.plan_lines.specs.TypeLines.{listed_number}
@@ -28,7 +28,7 @@ initializer_lines_from pool n [] = []
 initializer_lines_from pool n (i ∷ is) = initializer_line pool n i ++ initializer_lines_from pool (n + 1) is
 
 -- how many entities of each kind are imported, and how many are defined
-unfoldable pub count_lines : ModuleRecord → List ℕ
+unfoldable pub count_lines : Module → List ℕ
 count_lines m =
     counts_line (codes "functions") m.num_imported_funcs (length m.functions)
     ++ counts_line (codes "tables") m.num_imported_tables (length m.tables)

@@ -53,7 +53,7 @@ pub fn append_imports(
 #[tactic(auto, unfolding(crate::specs::ModuleLines::count_lines))]
 pub fn append_entity_counts(text: &mut Text, module: &Module) -> Result<(), OutOfMemory>
     requires { HoldsImports (record_of «module».now) }
-    ensures { OnOk result (text.new ≡ text.old ++ count_lines (record_of «module».now)) }
+    ensures { OnOk result (text.new ≡ text.old ++ count_lines «module».now) }
 {
     append_counts(
         text,

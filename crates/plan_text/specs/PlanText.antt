@@ -25,7 +25,7 @@ unfoldable pub entities_text : ModuleTranslation → List ℕ
 entities_text t =
     keyed_lines declared_line t.module.types
     ++ initializer_lines_from t.module.strings 0 t.module.initializers.items
-    ++ count_lines (record_of t.module)
+    ++ count_lines t.module
     ++ gc_heap_line t.module.needs_gc_heap
     ++ keyed_lines escape_lines t.module.functions
     ++ flat_map signature_line t.exported_signatures.items
