@@ -2,10 +2,9 @@
 -- once with its trampolines, then the exception types and the startup type.
 use Rattle.std.specs.Prelude.{ℕ, zero, suc, ◌+◌, ◌-◌, get_or, Bool, true, false, nat_lt, List, [], ◌∷◌, ◌++◌, length, map, replicate, set, Option, Some, None, if◌then◌else◌}
 use Rattle.std.specs.List.{fold}
-use Rattle.wasm_spec.specs.declared.types.AbstractHeapType.{AbstractHeapType}
-use Rattle.wasm_spec.specs.declared.types.AbstractHeapType.TheVariants as heap
 use Rattle.wasm_spec.specs.TypeData.{Heap, Concrete, Abstract, Value, Ref, Val, Field, Function, Composite, Func, Array, Struct, Cont, Exn, SubType, Group, map_function, map_group}
 use Rattle.type_data.specs.Shapes.{erased}
+use Rattle.type_data.specs.Tops.{top}
 use Rattle.type_data.specs.Names.{NameKind, FuncName, ArrayName, StructName, ContName, ExnName, Named}
 use Rattle.type_spec.specs.Same.{same_function}
 use Rattle.type_spec.specs.Equality.{Home, home}
@@ -19,28 +18,7 @@ Interned = SubType (Named ℕ) ℕ
 abbrev pub Called : Type 0
 Called = Function (Named ℕ)
 
--- ---- the top of a hierarchy
-
-abbrev pub top_of_kind : NameKind → AbstractHeapType
-top_of_kind FuncName = heap.Func
-top_of_kind ContName = heap.Cont
-top_of_kind ExnName = heap.Exn
-top_of_kind _ = heap.Any
-
-abbrev pub top_of_heap : AbstractHeapType → AbstractHeapType
-top_of_heap heap.Func = heap.Func
-top_of_heap heap.NoFunc = heap.Func
-top_of_heap heap.Extern = heap.Extern
-top_of_heap heap.NoExtern = heap.Extern
-top_of_heap heap.Exn = heap.Exn
-top_of_heap heap.NoExn = heap.Exn
-top_of_heap heap.Cont = heap.Cont
-top_of_heap heap.NoCont = heap.Cont
-top_of_heap _ = heap.Any
-
-abbrev pub top : Heap (Named ℕ) → AbstractHeapType
-top (Concrete n) = top_of_kind n.kind
-top (Abstract h) = top_of_heap h
+-- ---- what a trampoline passes
 
 -- the type that a trampoline passes for another: each reference nullable with its top
 abbrev pub passed : Value (Named ℕ) → Value (Named ℕ)
