@@ -227,6 +227,10 @@ def constant(value):
     return lambda evaluator: value
 
 
+# Laws of `type_spec` whose proofs stand beside an answer, each with the count of what it takes: nothing reads them.
+PROOFS = {"down-decided": 5, "function-decides": 2}
+
+
 def table():
     """What stands in place of a definition, by its crate and name."""
     joints = {
@@ -248,6 +252,8 @@ def table():
     made = {("wasm_spec", name): constant(value) for name, value in joints.items()}
     made["wasm_spec", "expression"] = expression
     made["wasm_spec", "custom_after"] = custom_after
+    for law, arity in PROOFS.items():
+        made["type_spec", law] = constant(Function(lambda *given: True, arity))
     return made
 
 
