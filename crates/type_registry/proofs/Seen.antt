@@ -1,11 +1,11 @@
 -- All data of types is that of some type.
-use Rattle.std.proofs.Common.{◌≡◌, ◌∙◌, List, [], ◌∷◌, map, refl, sym, ap, arith}
+use Rattle.std.proofs.Common.{◌≡◌, ◌∙◌, List, [], ◌∷◌, map, refl, sym, ap}
 use Rattle.wasm_spec.specs.TypeData as types
 use Rattle.wasm_types.specs.declared.index.EngineOrModuleTypeIndex.{EngineOrModuleTypeIndex}
 use Rattle.wasm_types.specs.declared.value.WasmValType.TheVariants as val
 use Rattle.wasm_types.specs.declared.field.WasmStorageType.TheVariants as storage
 use Rattle.wasm_types.specs.declared.composite.WasmCompositeInnerType.TheVariants as inner
-use Rattle.wasm_types.specs.ValueViews.{Name, heap_of, value_of, storage_of, field_of}
+use Rattle.wasm_types.specs.ValueViews.{Name, value_of, storage_of, field_of}
 use Rattle.wasm_types.specs.TypeViews.{composite_of, sub_type_of, group_of}
 use Rattle.wasm_types.specs.ViewsTell.{heap_from, heap-is, group_back}
 
