@@ -227,6 +227,10 @@ def constant(value):
     return lambda evaluator: value
 
 
+# Laws whose proofs stand beside an answer, each with the count of what it takes: nothing reads them.
+PROOFS = {("type_spec", "down-decided"): 5, ("type_spec", "function-decides"): 2, ("wasm_types", "heap-is"): 1}
+
+
 def table():
     """What stands in place of a definition, by its crate and name."""
     joints = {
@@ -248,6 +252,8 @@ def table():
     made = {("wasm_spec", name): constant(value) for name, value in joints.items()}
     made["wasm_spec", "expression"] = expression
     made["wasm_spec", "custom_after"] = custom_after
+    for law, arity in PROOFS.items():
+        made[law] = constant(Function(lambda *given: True, arity))
     return made
 
 

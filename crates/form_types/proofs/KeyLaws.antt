@@ -18,7 +18,7 @@ use Rattle.type_data.specs.TypeShapes.{group_shape}
 use Rattle.type_data.specs.Names.{plainly}
 use Rattle.type_data.specs.ListLaws.{map-same, map-twice}
 use Rattle.type_spec.specs.Equality.{Target, Inside, Earlier, target, canonical}
-use Rattle.type_spec.proofs.Tests.{all-decide}
+use Rattle.type_spec.specs.Tests.{all-decide}
 use Rattle.form_types.specs.declared.canonical.CanonicalGroup.{CanonicalGroup}
 use Rattle.form_types.specs.contracts.canonical.CanonicalGroupPartialEq.TheImpl as group
 use Rattle.form_types.specs.Codes.{group_codes}

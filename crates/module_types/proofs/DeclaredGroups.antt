@@ -316,7 +316,13 @@ module _ (m : plain.Module) (t : TypesData) (are : AreNumbered m t) (near : Name
         comes-next (after_first (size gs)) (size gs) lt p.0 p.1
 
     pub tied : HasTaken t (interns_declared t (new_builder validator) 0 all) (taken all)
-    tied = grind (arith, reached, has-index, whole)
+    tied =
+        let has = (reached (size all) (omega arith)).0 in
+        record {
+          built = has.built;
+          declared = λ i lt.
+              has-index (after_first (size all)) (size all) (omega arith) has i (omega (arith, lt, (whole all near).counted));
+        }
 
     -- two declared types have one interned index exactly where they are equal
     pub told : (i j : ℕ) → i < length t.declared → j < length t.declared

@@ -1,13 +1,15 @@
 -- The way back from data, mapped types with their codes, and which keys are equal.
 use Rattle.std.proofs.Common.{[], arith}
-use Rattle.std.proofs.Common.{◌≡◌, ◌↔◌, ℕ, true, ◌&&◌, List, ◌∷◌, map, refl, ap, ◌∙◌}
+use Rattle.std.proofs.Common.{◌≡◌, ◌↔◌, ℕ, true, ◌&&◌, List, ◌∷◌, map, refl, sym, ap, ◌∙◌}
 use Rattle.std.specs.Cmp.Lexicographic.{pointwise}
+use Rattle.std.proofs.lemmas.Bool.Decides.{same_from_decides}
 use Rattle.wasm_spec.specs.TypeData as types
-use Rattle.wasm_spec.specs.TypeData.{map_value}
+use Rattle.wasm_spec.specs.TypeData.{map_value, map_function}
 use Rattle.type_data.specs.Shapes.{erased}
 use Rattle.type_data.specs.Names.{Named, named}
-use Rattle.type_spec.specs.Same.{same_value}
-use Rattle.type_spec.specs.Interned.{Called, passed, mapped, same_mapped}
+use Rattle.type_spec.specs.Same.{same_value, same_function}
+use Rattle.type_spec.specs.Tests.{function-decides}
+use Rattle.type_spec.specs.Interned.{Called, passed, mapped, decide_mapped, same_mapped}
 use Rattle.wasm_types.specs.declared.value.WasmValType.{WasmValType}
 use Rattle.wasm_types.specs.declared.func.WasmFuncType.{WasmFuncType}
 use Rattle.wasm_types.specs.contracts.value.WasmValTypePartialEq.TheImpl as values
@@ -60,9 +62,17 @@ values-are (v ∷ vs) (w ∷ ws) = λ i. value-is v w i && values-are vs ws i
 pub equal : (f g : WasmFuncType) → (func.ghosts.eq f g ≡ true) ↔ (f ≡ g)
 equal f g = decides func.ghosts.eq function-sound func_equal.laws-law.refl f g
 
--- a mapped type is equal to another type exactly where the definition's test says so
+-- the decision answers what the test answers
+mapped-tested : (f g : Called) → same_mapped f g ≡ same_function (map_function erased f) (map_function erased g)
+mapped-tested f g = same_from_decides (same_mapped f g) _ (decide_mapped f g).1 (function-decides (map_function erased f) (map_function erased g))
+
+key-tested : (f q : WasmFuncType)
+    → func.ghosts.eq (trampoline_of f) q ≡ same_function (map_function erased (mapped (called_of f))) (map_function erased (called_of q))
+key-tested f q = grind (arith, mapped-is, values-are)
+
+-- a mapped type is equal to another type exactly where the definition's decision says so
 pub key-is : (f q : WasmFuncType) → func.ghosts.eq (trampoline_of f) q ≡ same_mapped (mapped (called_of f)) (called_of q)
-key-is f q = grind (arith, mapped-is, values-are)
+key-is f q = key-tested f q ∙ sym (mapped-tested (mapped (called_of f)) (called_of q))
 
 -- ---- mapped again and compared
 

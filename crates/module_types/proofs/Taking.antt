@@ -1,6 +1,7 @@
 -- What taking the groups of a list makes: the groups that are taken get the next indices, and each
 -- type has that of the first equal one.
 use Rattle.std.proofs.Common.{◌≡◌, ◌∙◌, ◌↔◌, ◌⊎◌, inl, inr, ℕ, zero, suc, ◌+◌, ◌-◌, ◌<◌, ◌≤◌, Bool, true, false, ◌||◌, List, [], ◌∷◌, ◌++◌, length, get_or, map, refl, sym, ap, subst, arith}
+use Rattle.std.specs.Bool.{Decides}
 use Rattle.std.specs.List.{All, fold, list_any, range_with_len}
 use Rattle.std.proofs.lemmas.Bool.{cases_lt, cases_eq, cases_Bool, or_cases, or_left, or_right}
 use Rattle.std.proofs.lemmas.Bool.Decides.{same_from_decides}
@@ -14,7 +15,7 @@ use Rattle.entity_map.specs.Firsts.{with_first, firsts_by}
 use Rattle.type_spec.specs.TakenGroups.{equal_groups, taken_groups}
 use Rattle.type_spec.specs.Interned.{Interned, Built, Taking, with_group, kind_at, interned_group, take_group, none_taken, taken, empty}
 use Rattle.type_spec.specs.Taken.{NameEarlier}
-use Rattle.type_spec.proofs.Decided.{down-decided}
+use Rattle.type_spec.specs.Decided.{decide_type}
 use Rattle.type_spec.proofs.Equivalence.{home-start, type-itself, type-turned, type-chained, type-groups, type-beside, groups-long}
 use Rattle.type_spec.proofs.Homes.{size, size-cons, in_front, behind, home-within, home-again}
 use Rattle.type_spec.proofs.ByNames.{name_by, by_names, names-same, zip-known-itself}
@@ -53,15 +54,18 @@ module _ (all : List (Group ℕ ℕ)) where
   abbrev pub IsEqual : Home → ℕ → Type 0
   IsEqual h i = equal_groups all h (home all i) ≡ true
 
+  equal-decided : (g h : Home) → Decides (equal_groups all g h) (SameType all all g.start h.start)
+  equal-decided g h = (decide_type all all g.start h.start).1
+
   pub equal-same : (h : Home) (i : ℕ) → IsEqual h i → SameType all all h.start (home all i).start
-  equal-same h i e = (down-decided (suc h.start) all all h.start (home all i).start).0 e
+  equal-same h i e = (equal-decided h (home all i)).0 e
 
   pub equal-home : (h : Home) (i : ℕ) → home all i ≡ h → IsEqual h i
-  equal-home h i at = grind (arith, down-decided (suc h.start) all all h.start h.start, type-itself all h.start)
+  equal-home h i at = grind (arith, equal-decided h (home all i), type-itself all h.start)
 
   equal-alike : (h g k : Home) → SameType all all g.start k.start → equal_groups all h g ≡ equal_groups all h k
   equal-alike h g k same =
-      grind (arith, down-decided (suc h.start) all all h.start g.start, type-turned all all g.start k.start same, down-decided (suc h.start) all all h.start k.start, same_from_decides, type-chained)
+      grind (arith, equal-decided h g, type-turned all all g.start k.start same, equal-decided h k, same_from_decides, type-chained)
 
   -- the type is equal to a member of the group
   pub record Copy (h : Home) (i : ℕ) : Type 0 where

@@ -1,13 +1,13 @@
 -- All data of types is that of some type.
-use Rattle.std.proofs.Common.{◌≡◌, ◌∙◌, List, [], ◌∷◌, map, refl, sym, ap, arith}
+use Rattle.std.proofs.Common.{◌≡◌, ◌∙◌, List, [], ◌∷◌, map, refl, sym, ap}
 use Rattle.wasm_spec.specs.TypeData as types
 use Rattle.wasm_types.specs.declared.index.EngineOrModuleTypeIndex.{EngineOrModuleTypeIndex}
 use Rattle.wasm_types.specs.declared.value.WasmValType.TheVariants as val
 use Rattle.wasm_types.specs.declared.field.WasmStorageType.TheVariants as storage
 use Rattle.wasm_types.specs.declared.composite.WasmCompositeInnerType.TheVariants as inner
-use Rattle.wasm_types.specs.ValueViews.{Name, heap_of, value_of, storage_of, field_of}
+use Rattle.wasm_types.specs.ValueViews.{Name, value_of, storage_of, field_of}
 use Rattle.wasm_types.specs.TypeViews.{composite_of, sub_type_of, group_of}
-use Rattle.wasm_types.specs.ViewsTell.{heap_from, group_back}
+use Rattle.wasm_types.specs.ViewsTell.{heap_from, heap-is, group_back}
 
 record Seen {A B : Type 0} (view : A → B) (seen : B) : Type 0 where
   pub from : A
@@ -16,10 +16,6 @@ record Seen {A B : Type 0} (view : A → B) (seen : B) : Type 0 where
 all-seen : {A B : Type 0} (view : A → B) → ((y : B) → Seen view y) → (ys : List B) → Seen (map view) ys
 all-seen view each [] = record { from = []; is = refl }
 all-seen view each (y ∷ ys) = let rest = all-seen view each ys in record { from = (each y).from ∷ rest.from; is = λ i. (each y).is i ∷ rest.is i }
-
--- the heap type of data has this data
-heap-is : (h : types.Heap Name) → heap_of (heap_from h) ≡ h
-heap-is h = grind arith
 
 seen-value : (v : types.Value Name) → Seen value_of v
 seen-value types.I32 = record { from = val.I32; is = refl }

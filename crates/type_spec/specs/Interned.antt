@@ -1,12 +1,14 @@
 -- The interned list of a module: each group of types (core specification, 2.3, recursive types)
 -- once with its trampolines, then the exception types and the startup type.
-use Rattle.std.specs.Prelude.{ℕ, zero, suc, ◌+◌, ◌-◌, get_or, Bool, true, false, nat_lt, List, [], ◌∷◌, ◌++◌, length, map, replicate, set, Option, Some, None, if◌then◌else◌}
+use Rattle.std.specs.Prelude.{◌≡◌, ℕ, zero, suc, ◌+◌, ◌-◌, get_or, Bool, true, false, List, [], ◌∷◌, ◌++◌, length, map, replicate, set, Option, Some, None, if◌then◌else◌}
+use Rattle.std.specs.Bool.{Decides}
 use Rattle.std.specs.List.{fold}
 use Rattle.wasm_spec.specs.TypeData.{Heap, Concrete, Abstract, Value, Ref, Val, Field, Function, Composite, Func, Array, Struct, Cont, Exn, SubType, Group, map_function, map_group}
 use Rattle.type_data.specs.Shapes.{erased}
 use Rattle.type_data.specs.Tops.{top}
 use Rattle.type_data.specs.Names.{NameKind, FuncName, ArrayName, StructName, ContName, ExnName, Named}
 use Rattle.type_spec.specs.Same.{same_function}
+use Rattle.type_spec.specs.Tests.{function-decides}
 use Rattle.type_spec.specs.Equality.{Home, home}
 use Rattle.entity_map.specs.Firsts.{firsts}
 use Rattle.type_spec.specs.TakenGroups.{places, equal_groups, taken_groups}
@@ -28,9 +30,14 @@ passed v = v
 abbrev pub mapped : Called → Called
 mapped f = record { params = map passed f.params; results = map passed f.results }
 
+-- whether two function types are equal but for what their references name: what it says determines
+-- the answer
+pub decide_mapped : (f g : Called) → (equal : Bool) × Decides equal (map_function erased f ≡ map_function erased g)
+decide_mapped f g = (same_function (map_function erased f) (map_function erased g), function-decides (map_function erased f) (map_function erased g))
+
 -- a mapped type names no declared type: it is its frame
 abbrev pub same_mapped : Called → Called → Bool
-same_mapped f g = same_function (map_function erased f) (map_function erased g)
+same_mapped f g = (decide_mapped f g).0
 
 -- ---- what is built
 

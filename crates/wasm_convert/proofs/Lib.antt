@@ -1,3 +1,4 @@
 mod OneMore
 mod Split
 mod Parts
+mod HeapTypes

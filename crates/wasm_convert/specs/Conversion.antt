@@ -12,7 +12,7 @@ use Rattle.wasm_types.specs.declared.heap.WasmHeapType.{WasmHeapType}
 use Rattle.wasm_types.specs.declared.limits.IndexType.TheVariants.{I32, I64}
 use Rattle.wasm_types.specs.EntityData.{GlobalData, TableData}
 use Rattle.wasm_types.specs.ValueViews.{Name}
-use Rattle.wasm_types.specs.ViewsTell.{heap_from}
+use Rattle.wasm_types.specs.ViewsTell.{heap_with}
 
 -- the result of looking up an index: the kind of the type that it names, and its index
 abbrev pub LookUp : Type 0
@@ -23,7 +23,7 @@ index_in look i = (look i).index
 
 -- the heap type that this data represents, with its index looked up
 abbrev pub heap_type_of : LookUp → HeapType → WasmHeapType
-heap_type_of look h = heap_from (map_heap look (heap_of h))
+heap_type_of look h = (heap_with (map_heap look (heap_of h))).0
 
 -- global and table types that were read, as data
 abbrev pub global_type_of : GlobalType → GlobalData UnpackedIndex

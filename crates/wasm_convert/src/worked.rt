@@ -24,6 +24,7 @@ use wasm_types::{
 };
 
 /// Types over a look-up that maps each index to the function type 7.
+#[tactic(auto, using(crate::proofs::HeapTypes::heap_converted))]
 pub fn worked_conversions()
     ensures reference { map_reference (λ i. record { kind = FuncName; index = EngineOrModuleTypeIndex.Module (index_of 7) })
         (read.reference_of (record { nullable = false; heap = HeapType.Concrete (UnpackedIndex.Module 3) }))

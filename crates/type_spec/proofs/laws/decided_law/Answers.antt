@@ -1,5 +1,5 @@
 use Rattle.std.proofs.Common.{suc}
-use Rattle.type_spec.proofs.Decided.{down-decided}
+use Rattle.type_spec.specs.Decided.{down-decided}
 use Rattle.type_spec.proofs.laws.decided_law.Goals as goal
 
 pub returns : goal.returns

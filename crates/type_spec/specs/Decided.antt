@@ -1,4 +1,4 @@
--- The test of equality decides it.
+-- Whether types are equal, and laws, with their proofs: the test of equality decides it.
 use Rattle.std.proofs.Common.{◌≡◌, ◌↔◌, ℕ, zero, suc, ◌-◌, Bool, true, false, nat_eq, List, [], ◌∷◌, refl}
 use Rattle.std.specs.Bool.{Decides}
 use Rattle.std.specs.List.{AllZip}
@@ -8,8 +8,8 @@ use Rattle.wasm_spec.specs.TypeData.{Group}
 use Rattle.type_data.specs.TypeShapes.{group_shape}
 use Rattle.type_data.specs.Names.{plainly, frame}
 use Rattle.type_spec.specs.Same.{same_frame}
-use Rattle.type_spec.specs.Equality.{Target, Inside, Earlier, target, Home, home, SameTarget, SameGroup, SameDown, same_target, same_edge, same_group, same_down}
-use Rattle.type_spec.proofs.Tests.{frame-decides}
+use Rattle.type_spec.specs.Equality.{Target, Inside, Earlier, target, Home, home, SameTarget, SameGroup, SameDown, SameType, same_target, same_edge, same_group, same_down, same_type}
+use Rattle.type_spec.specs.Tests.{frame-decides}
 
 module _ (test : ℕ → ℕ → Bool) (Same : ℕ → ℕ → Type 0) (decides : (i j : ℕ) → (test i j ≡ true) ↔ Same i j) where
   target-decided : (t u : Target ℕ) → Decides (same_target test t u) (SameTarget Same t u)
@@ -41,3 +41,7 @@ down-decided zero ms ns i j = (λ same. let no : false ≡ true = same in cc, λ
 down-decided (suc depth) ms ns i j =
     Decides-and (nat_eq (i - (home ms i).start) (j - (home ns j).start)) _ (Decides-eqb (i - (home ms i).start) (j - (home ns j).start))
     (group-decided (same_down depth ms ns) (SameDown depth ms ns) (down-decided depth ms ns) (home ms i) (home ns j))
+
+-- whether two types are equal: what it says determines the answer
+pub decide_type : (ms ns : List (Group ℕ ℕ)) (i j : ℕ) → (equal : Bool) × Decides equal (SameType ms ns i j)
+decide_type ms ns i j = (same_type ms ns i j, down-decided (suc i) ms ns i j)

@@ -1,4 +1,4 @@
--- The tests decide: types without references are equal exactly where the test says so.
+-- Laws, with their proofs: types without references are equal exactly where the tests say so.
 use Rattle.std.proofs.Common.{◌≡◌, ◌∙◌, ℕ, Bool, nat_eq, ◌&&◌, List, Option, Some, None, if◌then◌else◌, refl, sym, ap}
 use Rattle.std.specs.Bool.{Decides, beq}
 use Rattle.std.specs.Cmp.{booleans_Decides}
@@ -77,7 +77,7 @@ field-decides =
     both-decide (λ (f : Field Gap). f.element) (λ (f : Field Gap). f.mutable) same_storage beq storage-decides booleans_Decides
     (λ a b element mutable i. record { element = element i; mutable = mutable i })
 
-function-decides : (a b : Function Gap) → Decides (same_function a b) (a ≡ b)
+pub function-decides : (a b : Function Gap) → Decides (same_function a b) (a ≡ b)
 function-decides =
     both-decide (λ (f : Function Gap). f.params) (λ (f : Function Gap). f.results) (pointwise same_value) (pointwise same_value)
     (all-decide same_value value-decides) (all-decide same_value value-decides) (λ a b params results i. record { params = params i; results = results i })
