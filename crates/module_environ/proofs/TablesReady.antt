@@ -26,12 +26,14 @@ use Rattle.wasm_index.specs.declared.spaces.FuncSpace.{FuncSpace}
 use Rattle.wasm_types.specs.declared.table.Table.{Table}
 use Rattle.wasm_types.specs.EntityViews.{table_of}
 use Rattle.wasm_convert.specs.Conversion.{LookUp}
+use Rattle.wasm_convert.specs.Operators.{conversion}
 use Rattle.wasm_convert.specs.Constants.{const_ops_of, expression_of}
 use Rattle.wasm_convert.specs.declared.operators.ConstOp.{ConstOp}
 use Rattle.wasm_module.specs.declared.table_initialization.TableInitialValue.{TableInitialValue}
 use Rattle.wasm_module.specs.declared.table_initialization.TableSegment.{TableSegment}
 use Rattle.wasm_module.specs.declared.table_initialization.TableSegmentElements.{TableSegmentElements}
 use Rattle.wasm_module.specs.declared.table_initialization.TableSegmentElements.TheVariants as elements
+use Rattle.replay_spec.specs.Held.{any_null}
 use Rattle.replay_spec.specs.Elements.{ActiveElements, DefinedTable}
 use Rattle.replay_spec.specs.Tables.{image_cells, initial_function, expression_cell}
 use Rattle.table_images.specs.Views.{active_elements_of, initial_of, items_of, defined_tables_of, image_of}
@@ -51,9 +53,12 @@ module _ (look : LookUp) (l : Lists) (visible : List GlobalType) (c : Class) whe
   abbrev cell : Expression → Option ℕ
   cell e = unwrap_or (expression_cell e) None
 
+  cell-any : (o : Operator) → HasClass l visible (o ∷ []) c → IsAmong (length l.functions) (cell (any_null o ∷ []))
+  cell-any (op.RefFunc f) typed = sized-below l f (nat_lt f (length l.functions)) (refers_to []) typed.1.signed refl typed.1.is_signed
+  cell-any _ typed = tt
+
   cell-one : (o : Operator) → HasClass l visible (o ∷ []) c → IsAmong (length l.functions) (cell (expression_of (const_ops_of look (o ∷ []))))
-  cell-one (op.RefFunc f) typed = sized-below l f (nat_lt f (length l.functions)) (refers_to []) typed.1.signed refl typed.1.is_signed
-  cell-one _ typed = tt
+  cell-one o typed = subst (λ read. IsAmong (length l.functions) (cell (read ∷ []))) (sym (conversion look o).same) (cell-any o typed)
 
   cell-among : (e : Expression) → HasClass l visible e c → IsAmong (length l.functions) (cell (expression_of (const_ops_of look e)))
   cell-among [] typed = tt

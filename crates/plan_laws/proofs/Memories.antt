@@ -12,7 +12,7 @@ use Rattle.wasm_convert.specs.declared.operators.ConstOp.{ConstOp}
 use Rattle.wasm_convert.specs.declared.operators.ConstOp.TheVariants as ops
 use Rattle.wasm_convert.specs.Constants.{const_ops_of, expression_of}
 use Rattle.wasm_convert.specs.Conversion.{LookUp}
-use Rattle.wasm_convert.specs.Operators.{const_op_of, operator_of}
+use Rattle.wasm_convert.specs.Operators.{const_op_of, operator_of, conversion-is}
 use Rattle.wasm_module.specs.declared.memory_initialization.MemoryInitialization.{MemoryInitialization}
 use Rattle.wasm_module.specs.declared.memory_initialization.MemoryInitialization.TheVariants as initialization
 use Rattle.replay_spec.specs.Data.{ActiveSegment}
@@ -59,7 +59,7 @@ op-back look op none = refl
 ops-back : (look : LookUp) (e : List ConstOp) → All IsNoNull (expression_of e) → const_ops_of look (expression_of e) ≡ e
 ops-back look [] none = refl
 ops-back look (op ∷ e) none =
-    let head = op-back look op (All-head IsNoNull (operator_of op) (expression_of e) none) in
+    let head = conversion-is look (operator_of op) ∙ op-back look op (All-head IsNoNull (operator_of op) (expression_of e) none) in
     let tail = ops-back look e (All-tail IsNoNull (operator_of op) (expression_of e) none) in
     λ i. head i ∷ tail i
 

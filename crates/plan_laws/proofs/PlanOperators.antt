@@ -17,7 +17,7 @@ use Rattle.wasm_index.specs.declared.spaces.RuntimeDataSpace.{RuntimeDataSpace}
 use Rattle.wasm_convert.specs.declared.operators.ConstOp.{ConstOp}
 use Rattle.wasm_convert.specs.Constants.{const_ops_of}
 use Rattle.wasm_convert.specs.Conversion.{LookUp}
-use Rattle.wasm_convert.specs.Operators.{const_op_of, operator_of}
+use Rattle.wasm_convert.specs.Operators.{operator_of, conversion}
 use Rattle.wasm_module.specs.declared.table_initialization.TableInitialValue.{TableInitialValue}
 use Rattle.wasm_module.specs.declared.table_initialization.TableInitialValue.TheVariants as initial
 use Rattle.wasm_module.specs.declared.table_initialization.TableSegment.{TableSegment}
@@ -65,7 +65,7 @@ left-below look gs =
     let as-read : Numbered → Initialiser = λ g. (g.0, const_ops_of look g.1) in
     omega (
       arith,
-      sum-mapped as-read (λ g. length g.1) numbered_operators (λ g. sym (length-map g.1 (const_op_of look))) (filter_map kept_of (initialisers gs)),
+      sum-mapped as-read (λ g. length g.1) numbered_operators (λ g. sym (length-map g.1 (λ read. (conversion look read).op))) (filter_map kept_of (initialisers gs)),
       sum-kept kept_of numbered_operators numbered_operators kept-below (initialisers gs),
       numbered-same 0 (map (λ (g : GlobalDef). g.init) gs),
       sum-mapped (λ (g : GlobalDef). g.init) (λ (e : Expression). length e) first_operators (λ g. refl) gs,
@@ -79,7 +79,7 @@ value-same (initial.Expr e) = refl
 
 init-same : (look : LookUp) (e : Option Expression) → length (unwrap_or e []) ≡ if_any length (option_map (const_ops_of look) e)
 init-same look None = refl
-init-same look (Some e) = sym (length-map e (const_op_of look))
+init-same look (Some e) = sym (length-map e (λ read. (conversion look read).op))
 
 cells-same : (look : LookUp) (ts : List TableDef) → sum_by cell_operators ts ≡ sum_by (if_any length) (first_values look ts)
 cells-same look ts = sum-mapped (λ (t : TableDef). option_map (const_ops_of look) t.init) (if_any length) cell_operators (λ t. init-same look t.init) ts
@@ -92,7 +92,7 @@ item_offset s = length s.offset
 active-below : (look : LookUp) (k : ElementKind) (items : ElementItems) → if_any item_offset (active_in look k items) ≤ kind_operators k
 active-below look PassiveElement items = omega arith
 active-below look DeclaredElement items = omega arith
-active-below look (ActiveElement table e) items = omega (arith, length-map e (const_op_of look))
+active-below look (ActiveElement table e) items = omega (arith, length-map e (λ read. (conversion look read).op))
 
 offsets-below : (look : LookUp) (es : List Element) → sum_by item_offset (active_elements look es) ≤ sum_by element_operators es
 offsets-below look es = sum-kept (λ (e : Element). active_in look e.kind e.items) item_offset element_operators (λ e. active-below look e.kind e.items) es

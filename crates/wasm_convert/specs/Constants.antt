@@ -15,11 +15,11 @@ use Rattle.wasm_convert.specs.declared.values.GlobalConstValue.{GlobalConstValue
 use Rattle.wasm_convert.specs.declared.values.GlobalConstValue.TheVariants as value
 use Rattle.replay_spec.specs.Values.{Value, I32, I64, F32, F64, V128}
 use Rattle.wasm_convert.specs.Conversion.{LookUp}
-use Rattle.wasm_convert.specs.Operators.{const_op_of, operator_of}
+use Rattle.wasm_convert.specs.Operators.{operator_of, conversion}
 
 -- the operators of an expression that was read
 abbrev pub const_ops_of : LookUp → Expression → List ConstOp
-const_ops_of look e = map (const_op_of look) e
+const_ops_of look e = map (λ read. (conversion look read).op) e
 
 -- the function to which an operator makes a reference
 abbrev pub function_in : Operator → Option (Index FuncSpace)

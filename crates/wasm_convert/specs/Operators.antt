@@ -1,7 +1,9 @@
 -- Operators of constant expressions (core specification, 3.4, constant expressions) in a translated
 -- module, and the operators that were read.
-use Rattle.std.specs.Prelude.{ℕ, ◌<◌, List, [], length, nat_eq, Option, None, ⊤, codes, if◌then◌else◌}
+use Rattle.std.proofs.Common.{refl, ap}
+use Rattle.std.specs.Prelude.{◌≡◌, ℕ, ◌<◌, List, [], length, nat_eq, Option, None, ⊤, codes, if◌then◌else◌}
 use Rattle.wasm_spec.specs.declared.types.UnpackedIndex.{UnpackedIndex}
+use Rattle.wasm_spec.specs.declared.types.HeapType.{HeapType}
 use Rattle.wasm_spec.specs.declared.types.HeapType.TheVariants.{Abstract}
 use Rattle.wasm_spec.specs.declared.types.AbstractHeapType.TheVariants.{Any}
 use Rattle.wasm_spec.specs.declared.operators.Operator.{Operator}
@@ -11,6 +13,7 @@ use Rattle.wasm_convert.specs.declared.operators.ConstOp.{ConstOp}
 use Rattle.wasm_convert.specs.declared.operators.ConstOp.TheVariants as ops
 use Rattle.wasm_convert.specs.declared.operands.Operands.{Operands}
 use Rattle.wasm_convert.specs.declared.operands.Operands.TheVariants as operand
+use Rattle.replay_spec.specs.Held.{any_null}
 use Rattle.replay_spec.specs.Values.{Value, action, is_plain}
 use Rattle.wasm_convert.specs.Conversion.{LookUp, heap_type_of}
 use Rattle.wasm_convert.specs.Known.{KnowsHeap}
@@ -132,6 +135,28 @@ place_of_operator (ops.ArrayNewDefault t) = 18
 place_of_operator (ops.ArrayNewFixed t size) = 19
 place_of_operator ops.ExternConvertAny = 20
 place_of_operator ops.AnyConvertExtern = 21
+
+-- what an operator is converted to: the same operator, with its indices typed by their lists; of a
+-- null reference the heap type is converted, which is lost in what it is converted back to
+pub record Conversion (look : LookUp) (read : Operator) : Type 0 where
+  pub op : ConstOp
+  pub same : operator_of op ≡ any_null read
+  pub null : (heap : HeapType) → read ≡ plain.RefNull heap → op ≡ ops.RefNull (heap_type_of look heap)
+
+back : (look : LookUp) (read : Operator) → operator_of (const_op_of look read) ≡ any_null read
+back look (plain.RefNull heap) = refl
+back look read = refl
+
+null_is : (look : LookUp) (read : Operator) (heap : HeapType) → read ≡ plain.RefNull heap → const_op_of look read ≡ ops.RefNull (heap_type_of look heap)
+null_is look read heap is = ap (const_op_of look) is
+
+-- each operator has one conversion
+pub conversion : (look : LookUp) (read : Operator) → Conversion look read
+conversion look read = record { op = const_op_of look read; same = back look read; null = null_is look read }
+
+pub conversion-is : (look : LookUp) (read : Operator) → (conversion look read).op ≡ const_op_of look read
+unfolding conversion
+conversion-is look read = refl
 
 -- the result of a constant, a sum, a difference or a product, from as many values as it pops; none
 -- for another operator
