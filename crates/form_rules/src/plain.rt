@@ -1,8 +1,7 @@
 //! Segments at an offset of one `i32.const`, which most segments have.
 
-ghost use Rattle.std.specs.Prelude.{◌≡◌, ◌∷◌, [], ℕ, List, IsTrue, IfSome};
+ghost use Rattle.std.specs.Prelude.{ℕ, List, IsTrue};
 ghost use Rattle.wasm_spec.specs.declared.entities.GlobalType.{GlobalType};
-ghost use Rattle.wasm_spec.specs.declared.operators.Operator.TheVariants.{I32Const};
 ghost use Rattle.form_data.specs.Views.{element_of, element_kind_of, items_of, expression_of, data_kind_of};
 ghost use Rattle.rule_spec.specs.declared.classes.Class.TheVariants.{I32};
 ghost use Rattle.rule_spec.specs.Lists as rule;
@@ -14,7 +13,7 @@ ghost use Rattle.form_lists.specs.Views.{lists_of};
 
 use form_data::{ConstExpr, DataKind, Element, ElementItems, ElementKind};
 use form_lists::Lists;
-use wasm_spec::Operator;
+use form_typing::one_i32;
 
 /// Whether the expression is one `i32.const`.
 #[inline(always)]
@@ -86,26 +85,4 @@ fn lists_functions(items: &ElementItems) -> bool
     ensures refers { (types : ℕ) → IsTrue result → ItemsReferIn types (items_of items.now) }
 {
     matches!(items, ElementItems::Functions(_))
-}
-
-/// The number of an expression of one `i32.const`.
-#[inline(always)]
-fn one_i32(expression: &ConstExpr) -> Option<i32>
-    ensures { IfSome result (λ value. expression_of expression.now ≡ I32Const value ∷ []) }
-{
-    match only(expression.ops.as_slice()) {
-        Some(Operator::I32Const { value }) => Some(*value),
-        _ => None,
-    }
-}
-
-/// The only operator, if there is only one.
-#[inline(always)]
-fn only(ops: &[Operator]) -> Option<&Operator>
-    ensures { IfSome result (λ op. ops.now ≡ op.now ∷ []) }
-{
-    match ops {
-        [op] => Some(op),
-        _ => None,
-    }
 }

@@ -1,19 +1,19 @@
 //! Whether an expression has a class.
 
-ghost use Rattle.std.specs.Prelude.{◌≡◌, ◌↔◌, ◌∷◌, [], IsTrue, IfOk, IfSome};
-ghost use Rattle.wasm_spec.specs.declared.operators.Operator.TheVariants.{I32Const};
+ghost use Rattle.std.specs.Prelude.{◌≡◌, ◌↔◌, ◌∷◌, [], IsTrue, IfOk};
 ghost use Rattle.form_data.specs.Views.{expression_of};
 ghost use Rattle.rule_spec.specs.declared.classes.Class.TheVariants.{I32};
 ghost use Rattle.rule_spec.specs.Typing.{HasClass};
 ghost use Rattle.form_lists.specs.Views.{lists_of};
 ghost use Rattle.form_typing.specs.Defaults.{defaults as defaults_of_types};
 
+use crate::constants::one_i32;
 use crate::operators::take_operands;
 use form_data::ConstExpr;
 use form_lists::Lists;
 use rule_spec::Class;
 use std::alloc::AllocError;
-use wasm_spec::{GlobalType, Operator};
+use wasm_spec::GlobalType;
 
 /// Whether the expression leads from the empty stack to one value of the class, where these globals
 /// are visible.
@@ -43,28 +43,6 @@ pub fn is_typed(
         }
     }
     Ok(is_alone(stack, class))
-}
-
-/// The number of an expression of one `i32.const`.
-#[inline(always)]
-fn one_i32(expression: &ConstExpr) -> Option<i32>
-    ensures { IfSome result (λ value. expression_of expression.now ≡ I32Const value ∷ []) }
-{
-    match only(expression.ops.as_slice()) {
-        Some(Operator::I32Const { value }) => Some(*value),
-        _ => None,
-    }
-}
-
-/// The only operator, if there is only one.
-#[inline(always)]
-fn only(ops: &[Operator]) -> Option<&Operator>
-    ensures { IfSome result (λ op. ops.now ≡ op.now ∷ []) }
-{
-    match ops {
-        [op] => Some(op),
-        _ => None,
-    }
 }
 
 fn is_i32(class: Class) -> bool
