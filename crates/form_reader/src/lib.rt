@@ -38,6 +38,7 @@ mod module;
 mod numbers;
 mod offsets;
 mod operators;
+mod passed_expressions;
 mod sections;
 mod segments;
 mod tables;
