@@ -70,7 +70,7 @@ impl<'d> InputEntry<'d> for GlobalDef {
         _alloc: Global,
         cursor: &mut Cursor<'d>,
     ) -> Result<(), ReadError> {
-        global.ty = cursor.global_type()?;
+        cursor.pass_global_type()?;
         cursor.pass_expression(&mut global.init.ops)
     }
 }

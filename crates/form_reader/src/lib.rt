@@ -39,6 +39,7 @@ mod numbers;
 mod offsets;
 mod operators;
 mod passed_expressions;
+mod passed_globals;
 mod sections;
 mod segments;
 mod tables;
