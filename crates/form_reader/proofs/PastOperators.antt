@@ -1,10 +1,10 @@
 -- Operators up to the end mark, as a loop passes over them.
-use Rattle.std.proofs.Common.{◌≡◌, ℕ, zero, suc, ◌-◌, ◌+◌, ◌<◌, List, [], ◌∷◌, Result, Ok, Err, Some, refl, sym, ◌∙◌, arith, inl, inr}
+use Rattle.std.proofs.Common.{◌≡◌, ℕ, zero, suc, ◌-◌, ◌+◌, ◌<◌, List, ◌∷◌, Result, Ok, Err, Some, refl, sym, ◌∙◌, arith, inl, inr}
 use Rattle.std.specs.Prelude.{◌⊎◌}
 use Rattle.std.proofs.lemmas.Bool.{ne_eqb}
 use Rattle.wasm_spec.specs.declared.operators.Operator.{Operator}
 use Rattle.wasm_spec.specs.Module.{Expression}
-use Rattle.form_reader.specs.Reading.{Fault, and_then, gives_at, rest_at, uncons}
+use Rattle.form_reader.specs.Reading.{Fault, and_then, rest_at, uncons}
 use Rattle.form_reader.specs.ReadingNumbers.{unsigned_at, signed_at}
 use Rattle.form_reader.specs.ExpressionRows.{operator_after, constant_after, arithmetic_after, object_operator, indexed}
 use Rattle.form_reader.specs.ExpressionLaws.{operators_at}

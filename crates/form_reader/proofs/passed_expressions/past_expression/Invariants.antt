@@ -1,4 +1,4 @@
-use Rattle.std.proofs.Common.{◌≡◌, ◌-◌, length}
+use Rattle.std.proofs.Common.{◌≡◌, ◌-◌}
 use Rattle.form_reader.specs.Reading.{rest_at}
 use Rattle.form_reader.specs.ExpressionLaws.{operators_at}
 use Rattle.form_reader.proofs.passed_expressions.past_expression.Given as goal

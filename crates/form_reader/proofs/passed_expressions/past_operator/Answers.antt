@@ -1,4 +1,3 @@
-use Rattle.std.proofs.Common.{◌≡◌}
 use Rattle.std.proofs.lemmas.Option.{IfSome_then}
 use Rattle.form_reader.proofs.PastOperators.{past_indexed, past_constant, past_sum}
 use Rattle.form_reader.proofs.passed_expressions.past_operator.Goals as goal
