@@ -10,6 +10,8 @@ pub mod OneConstant
 pub mod OperatorList
 pub mod Outcomes
 pub mod Passed
+pub mod PastGlobals
+pub mod PastOperators
 pub mod SameItems
 pub mod SectionLaws
 pub mod SectionList

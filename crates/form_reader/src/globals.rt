@@ -64,12 +64,13 @@ impl<'d> InputEntry<'d> for GlobalDef {
         cursor.expression_into(&mut global.init.ops)
     }
 
-    #[tactic(auto, unfolding(crate::specs::Reading::rest_at))]
+    #[tactic(auto, unfolding(crate::specs::Reading::rest_at, crate::specs::SectionRows::global_entry))]
     fn pass(
         global: &mut GlobalDef,
-        alloc: Global,
+        _alloc: Global,
         cursor: &mut Cursor<'d>,
     ) -> Result<(), ReadError> {
-        Self::read_into(global, alloc, cursor)
+        cursor.pass_global_type()?;
+        cursor.pass_expression(&mut global.init.ops)
     }
 }

@@ -38,6 +38,8 @@ mod module;
 mod numbers;
 mod offsets;
 mod operators;
+mod passed_expressions;
+mod passed_globals;
 mod sections;
 mod segments;
 mod tables;

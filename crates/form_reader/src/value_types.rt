@@ -16,9 +16,9 @@ use wasm_spec::{AbstractHeapType, HeapType, RefType, UnpackedIndex, ValType, Wha
 pub const SHARED: u8 = 0x65;
 
 /// The bytes before the heap type of a reference that may be null, and of one that may not.
-const NULLABLE: u8 = 0x63;
+pub const NULLABLE: u8 = 0x63;
 
-const NOT_NULLABLE: u8 = 0x64;
+pub const NOT_NULLABLE: u8 = 0x64;
 
 /// The byte of the first abstract heap type; the others follow it in order.
 const FIRST_HEAP_TYPE: u8 = 0x68;

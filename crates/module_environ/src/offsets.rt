@@ -7,7 +7,7 @@ ghost use Rattle.module_environ.specs.Segments.{IsOffset};
 
 use entity_map::OutOfMemory;
 use std::alloc::Global;
-use wasm_convert::{ConstExpr, ConstOp, TypeConvert};
+use wasm_convert::{ConstExpr, TypeConvert};
 use wasm_spec::Operator;
 
 /// An offset, converted. It is a number, so it makes no reference to a function.
@@ -21,8 +21,7 @@ pub(crate) fn convert_offset(
 {
     // Most offsets are one constant.
     if let Some(value) = one_i32(offset) {
-        let converted = ConstExpr::new(alloc, &[ConstOp::I32Const(value)])?;
-        return Ok(converted);
+        return Ok(ConstExpr::one_i32(alloc, value));
     }
     let (offset, _functions) = ConstExpr::from_wasmparser(alloc, env, offset)?;
     Ok(offset)

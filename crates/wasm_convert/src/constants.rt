@@ -1,8 +1,9 @@
 //! Constant expressions and their values.
 
-ghost use Rattle.std.specs.Prelude.{◌≡◌, ◌↔◌, ◌<◌, ◌≤◌, ◌++◌, length, All, IsTrue, IsOk, IfOk, IfSome, OnOk};
+ghost use Rattle.std.specs.Prelude.{◌≡◌, ◌↔◌, ◌<◌, ◌≤◌, ◌++◌, ◌∷◌, [], length, All, IsTrue, IsOk, IfOk, IfSome, OnOk};
 ghost use Rattle.std.specs.Option.{option_map, option_to_list};
 ghost use Rattle.wasm_index.specs.Index.{number_of};
+ghost use Rattle.wasm_convert.specs.declared.operators.ConstOp.TheVariants.{I32Const};
 ghost use Rattle.wasm_convert.specs.Constants.{plain_value_of, expression_of, IsNonzeroI32, const_ops_of, function_in, functions_of};
 ghost use Rattle.wasm_convert.specs.Operators.{KnowsOperator};
 ghost use Rattle.replay_spec.specs.Values.{const_value};
@@ -17,6 +18,7 @@ use std::alloc::Global;
 use std::marker::Model;
 use wasm_index::FuncIndex;
 use wasm_spec::Operator;
+use wasm_types::{EngineOrModuleTypeIndex, WasmHeapType};
 
 /// A constant expression: its operators, of which there is at least one. Two are stored without an
 /// allocation.
@@ -73,6 +75,19 @@ impl ConstExpr {
         Ok(ConstExpr {
             ops: SmallVec::from_slice(alloc, ops)?,
         })
+    }
+
+    /// The expression of one `i32.const`.
+    #[inline(always)]
+    pub fn one_i32(alloc: Global, value: i32) -> Self
+        ensures { result ≡ I32Const value ∷ [] }
+    {
+        // The types that an operator holds.
+        let _named: Option<EngineOrModuleTypeIndex> = None;
+        let _named: Option<WasmHeapType> = None;
+        let mut ops = SmallVec::new(alloc);
+        ops.push_reserved(ConstOp::I32Const(value));
+        ConstExpr { ops }
     }
 
     /// The expression that was read, with each operator converted, and the functions to which it
