@@ -5,6 +5,8 @@ ghost use Rattle.std.specs.Option.{option_map, option_to_list};
 ghost use Rattle.wasm_index.specs.Index.{number_of};
 ghost use Rattle.wasm_convert.specs.declared.operators.ConstOp.TheVariants.{I32Const};
 ghost use Rattle.wasm_convert.specs.Constants.{plain_value_of, expression_of, IsNonzeroI32, const_ops_of, function_in, functions_of};
+ghost use Rattle.wasm_spec.specs.declared.operators.Operator.TheVariants as plain;
+ghost use Rattle.wasm_convert.specs.Conversion.{LookUp};
 ghost use Rattle.wasm_convert.specs.Operators.{KnowsOperator};
 ghost use Rattle.replay_spec.specs.Values.{const_value};
 
@@ -80,7 +82,8 @@ impl ConstExpr {
     /// The expression of one `i32.const`.
     #[inline(always)]
     pub fn one_i32(alloc: Global, value: i32) -> Self
-        ensures { result ≡ I32Const value ∷ [] }
+        ensures is { result ≡ I32Const value ∷ [] }
+        ensures converted { (look : LookUp) → result ≡ const_ops_of look (plain.I32Const value ∷ []) }
     {
         // The types that an operator holds.
         let _named: Option<EngineOrModuleTypeIndex> = None;
