@@ -12,7 +12,7 @@ ghost use Rattle.std.specs.Hash.{same_Alike, on_Alike, and-Alike, items_Alike};
 ghost use Rattle.wasm_spec.specs.contracts.types.UnpackedIndexHash.TheImpl.Laws as index_hash;
 ghost use Rattle.form_types.specs.Keys.{key_of, Adds};
 
-use crate::codes::{END, flag, named_by, storage_code, value_code};
+use crate::codes::{END, I32, below_i32, flag, named_by, storage_code, value_code};
 use form_data::{CompositeInnerType, FuncType, SubType};
 use std::alloc::{AllocError, Global};
 use std::hash::{Hash, Hasher};
@@ -145,8 +145,23 @@ impl CanonicalGroup {
         Ok(())
     }
 
-    /// Adds a value, for which there is capacity.
+    /// Adds a value, for which there is capacity. Most values are no references.
+    #[inline(always)]
     fn add_value(&mut self, value: &ValType) -> Result<(), AllocError>
+        requires { vec_len self.old.frame < vec_capacity self.old.frame }
+        ensures adds { OnOk result (Adds self.old self.new (value_code (value_of value.now) ∷ []) (value_edges (λ i. i) (value_of value.now))) }
+        ensures len { vec_len self.new.frame ≡ vec_len self.old.frame + 1 }
+        ensures capacity { vec_capacity self.new.frame ≡ vec_capacity self.old.frame }
+    {
+        let Some(below) = below_i32(value) else {
+            return self.add_reference(value);
+        };
+        self.frame.push_reserved(I32 - below);
+        Ok(())
+    }
+
+    /// As `add_value`, of a reference.
+    fn add_reference(&mut self, value: &ValType) -> Result<(), AllocError>
         requires { vec_len self.old.frame < vec_capacity self.old.frame }
         ensures adds { OnOk result (Adds self.old self.new (value_code (value_of value.now) ∷ []) (value_edges (λ i. i) (value_of value.now))) }
         ensures len { vec_len self.new.frame ≡ vec_len self.old.frame + 1 }

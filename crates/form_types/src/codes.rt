@@ -1,6 +1,6 @@
 //! The frames of types as bytes.
 
-ghost use Rattle.std.specs.Prelude.{◌≡◌, ◌<◌};
+ghost use Rattle.std.specs.Prelude.{◌≡◌, ◌<◌, ◌≤◌, ◌+◌, [], IfSome};
 ghost use Rattle.std.specs.Option.{option_to_list};
 ghost use Rattle.wasm_spec.specs.TypeData.{heap_of, reference_of, value_of, storage_of, value_edges};
 ghost use Rattle.type_spec.specs.Same.{heap_byte};
@@ -13,6 +13,9 @@ pub const END: u8 = 0x0B;
 
 /// The byte of a heap type that names a declared type.
 const CONCRETE: u8 = 0x60;
+
+/// The byte of `i32`.
+pub const I32: u8 = 0x7F;
 
 /// What is added to a byte where the reference cannot be null.
 const NOT_NULL: u8 = 128;
@@ -68,6 +71,24 @@ pub fn value_code(ty: &ValType) -> u8
         ValType::F64 => 0x7C,
         ValType::V128 => 0x7B,
         ValType::Ref(ty) => reference_code(ty),
+    }
+}
+
+/// How far the byte of a value type that is no reference is below that of `i32`. It is the place of
+/// the variant, so nothing is looked up for it.
+#[inline(always)]
+pub fn below_i32(ty: &ValType) -> Option<u8>
+    ensures code { IfSome result (λ below. value_code (value_of ty.now) + below ≡ 0x7F) }
+    ensures few { IfSome result (λ below. below ≤ 4) }
+    ensures names { IfSome result (λ below. value_edges (λ i. i) (value_of ty.now) ≡ []) }
+{
+    match ty {
+        ValType::I32 => Some(0),
+        ValType::I64 => Some(1),
+        ValType::F32 => Some(2),
+        ValType::F64 => Some(3),
+        ValType::V128 => Some(4),
+        ValType::Ref(_) => None,
     }
 }
 

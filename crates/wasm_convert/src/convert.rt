@@ -1,6 +1,6 @@
 //! The trait of a look-up of the types that indices name.
 
-ghost use Rattle.std.specs.Prelude.{◌≡◌, IfOk, map};
+ghost use Rattle.std.specs.Prelude.{◌≡◌, IfOk, IfSome, map};
 ghost use Rattle.wasm_spec.specs.declared.types.UnpackedIndex.{UnpackedIndex};
 ghost use Rattle.wasm_spec.specs.TypeData.{Concrete, unshared, heap_edges, reference_edges, value_edges, storage_edges, field_edges, function_edges, composite_edges, sub_type_edges, map_heap, map_reference, map_value, map_storage, map_field, map_function, map_composite, map_sub_type};
 ghost use Rattle.wasm_spec.specs.TypeData as read;
@@ -27,6 +27,21 @@ use wasm_types::{
     WasmCompositeInnerType, WasmCompositeType, WasmContType, WasmFieldType, WasmFuncType,
     WasmHeapType, WasmRefType, WasmStorageType, WasmStructType, WasmSubType, WasmValType,
 };
+
+/// A value type that is no reference, as one of a translated module.
+#[inline(always)]
+fn number_type(ty: &ValType) -> Option<WasmValType>
+    ensures { IfSome result (λ number. (look_up : LookUp) → value_of number ≡ map_value look_up (read.value_of ty.now)) }
+{
+    match ty {
+        ValType::I32 => Some(WasmValType::I32),
+        ValType::I64 => Some(WasmValType::I64),
+        ValType::F32 => Some(WasmValType::F32),
+        ValType::F64 => Some(WasmValType::F64),
+        ValType::V128 => Some(WasmValType::V128),
+        ValType::Ref(_) => None,
+    }
+}
 
 /// A look-up of the types that indices name. It converts types that were read into those of a
 /// translated module. Each index in a type that is converted must be known, and none may be an
@@ -191,10 +206,16 @@ pub trait TypeConvert {
     {
         let mut types = Vec::with_capacity(alloc, ty.params.len() + ty.results.len())?;
         for ty in ty.params.as_slice() {
-            types.push(self.convert_valtype(*ty))?;
+            match number_type(ty) {
+                Some(number) => types.push_reserved(number),
+                None => types.push_reserved(self.convert_valtype(*ty)),
+            }
         }
         for ty in ty.results.as_slice() {
-            types.push(self.convert_valtype(*ty))?;
+            match number_type(ty) {
+                Some(number) => types.push_reserved(number),
+                None => types.push_reserved(self.convert_valtype(*ty)),
+            }
         }
         Ok(WasmFuncType::from_types(types, ty.params.len() as u32))
     }

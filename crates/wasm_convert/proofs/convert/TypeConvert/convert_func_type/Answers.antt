@@ -18,8 +18,8 @@ convert_valtype-requires g c =
     rw c.as_slice-ty-items.ensures.value (all-parts can (value_edges (λ i. i)) read.value_of c.args.ty.now.params.items known) in
     each c.loop-ty.ty-index _ c.loop-ty-test.true
 
-pub convert_valtype-requires-in-loop-ty-2 : goal.convert_valtype-requires-in-loop-ty-2
-convert_valtype-requires-in-loop-ty-2 g c =
+pub convert_valtype-requires-in-None-number_type : goal.convert_valtype-requires-in-None-number_type
+convert_valtype-requires-in-None-number_type g c =
     let can = CanLookUp (g.Self.TypeConvert.knows c.args.self.now) in
     let known = all-second can (flat_map (value_edges (λ i. i)) (map read.value_of c.args.ty.now.params.items)) _ c.requires.known in
     let each : All (λ t. All can (value_edges (λ i. i) (read.value_of t))) c.as_slice-ty-items-2.result.now =
@@ -34,7 +34,7 @@ returns g c =
     let types = c.loop-ty-2.types.items in
     let past : length results ≤ c.loop-ty-2.ty-index = omega (arith, ap length c.as_slice-ty-items-2.ensures.value) in
     let is : map made.value_of types ≡ map (λ t. map_value look (read.value_of t)) (params ++ results) =
-    c.loop-ty-2.invariant ∙ ap (λ ts. map (λ t. map_value look (read.value_of t)) (params ++ ts)) (take_all c.loop-ty-2.ty-index results past) in
+    c.loop-ty-2.invariant.converted ∙ ap (λ ts. map (λ t. map_value look (read.value_of t)) (params ++ ts)) (take_all c.loop-ty-2.ty-index results past) in
     let first = first-part made.value_of (map_value look) read.value_of params results types is in
     let second = second-part made.value_of (map_value look) read.value_of params results types is in
     let split : c.from_types.result ≡ split_types (length params) types = search rules in
