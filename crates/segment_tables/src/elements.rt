@@ -101,7 +101,12 @@ fn expressions_in(items: &ElementItems) -> &[ConstExpr]
 
 /// The row of a segment whose functions begin at a place, its offset at another, and its items that
 /// are expressions at a third.
-fn element_row(functions: usize, offset: usize, items: usize, element: &Element) -> ElementSegmentRow
+fn element_row(
+    functions: usize,
+    offset: usize,
+    items: usize,
+    element: &Element,
+) -> ElementSegmentRow
     ensures { (n : ℕ) → offset ≡ offset_number n (element_of element.now).kind → items ≡ n + length (offsets_in (element_of element.now).kind)
         → result ≡ element_row functions n (element_of element.now) }
 {

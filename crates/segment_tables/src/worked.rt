@@ -16,8 +16,7 @@ pub fn worked_rows()
     ensures null { operator_row (Operator.RefNull (HeapType.Concrete (UnpackedIndex.Module 3)))
         ≡ record { code = 7; heap = 19; list = 4; index = 3; low = 0; high = 0 } }
     ensures function { operator_row (Operator.RefFunc 4) ≡ record { code = 8; heap = 0; list = 0; index = 4; low = 0; high = 0 } }
-    ensures elements {
-        let rows = element_rows 0 0
+    ensures elements { let rows = element_rows 0 0
         (record { kind = ActiveElement None (Operator.I32Const (pos 1) ∷ []); items = Functions (4 ∷ 2 ∷ []) }
         ∷ record { kind = DeclaredElement; items = Expressions (record { nullable = true; heap = HeapType.Abstract AbstractHeapType.Any }) ((Operator.I32Const (pos 5) ∷ Operator.RefI31 ∷ []) ∷ []) } ∷ []) in
         (map (λ row. row.kind) rows ≡ 1 ∷ 2 ∷ [])
