@@ -5,7 +5,8 @@ use Rattle.std.specs.Borrow.{Bor}
 use Rattle.wasm_index.specs.declared.index.Index.{Index}
 use Rattle.wasm_index.specs.declared.spaces.DataSpace.{DataSpace}
 use Rattle.wasm_module.specs.declared.memory_initialization.MemoryInitializer.{MemoryInitializer}
-use Rattle.init_plan.specs.Views.{active_segment_of, passive_segment_of}
+use Rattle.memory_images.specs.Views.{active_segment_of}
+use Rattle.init_plan.specs.Views.{passive_segment_of}
 
 sum_by-map : {X Y : Type 0} (g : Y → ℕ) (f : X → Y) (xs : List X) → sum_by g (map f xs) ≡ sum_by (λ x. g (f x)) xs
 sum_by-map g f xs = fold-map (λ n y. n + g y) f 0 xs

@@ -14,12 +14,11 @@ use Rattle.wasm_types.specs.Memories.{minimum_bytes}
 use Rattle.wasm_convert.specs.Constants.{expression_of}
 use Rattle.wasm_module.specs.Record.{record_of, empty_record}
 use Rattle.replay_spec.specs.Data.{ActiveSegment}
-use Rattle.memory_images.specs.Views.{active_segment_of as plain_segment_of}
+use Rattle.memory_images.specs.Views.{active_segment_of}
 use Rattle.replay_spec.specs.Plan.{PlannedOffset, Expr, Static, PlannedSegment, MemoryPlan}
 use Rattle.wasm_module.specs.declared.module.Module.{Module}
 use Rattle.wasm_module.specs.declared.memory_initialization.MemoryInitialization.{MemoryInitialization}
 use Rattle.wasm_module.specs.declared.memory_initialization.MemoryInitialization.TheVariants as initialization
-use Rattle.wasm_module.specs.declared.memory_initialization.MemoryInitializer.{MemoryInitializer}
 use Rattle.form_types.specs.Types.{TypesData}
 use Rattle.init_plan.specs.declared.debug_info.BranchHint.{BranchHint}
 use Rattle.init_plan.specs.declared.debug_info.DebugInfoData.{DebugInfoData}
@@ -32,9 +31,6 @@ use Rattle.init_plan.specs.declared.translation.MemorySegmentOffset.{MemorySegme
 use Rattle.init_plan.specs.declared.translation.MemorySegmentOffset.TheVariants as offset
 
 -- ---- before the plan
-
-abbrev pub active_segment_of : MemoryInitializer → ActiveSegment
-active_segment_of s = plain_segment_of s
 
 abbrev pub unprocessed_of : MemoryInit → List ActiveSegment
 unprocessed_of (init.Unprocessed segments) = map active_segment_of segments.items

@@ -5,8 +5,8 @@ ghost use Rattle.std.specs.Int.{IsPowerOfTwo};
 ghost use Rattle.replay_spec.specs.Plan.{MemoryPlan, AgreesOver, ranges_from};
 ghost use Rattle.replay_spec.specs.Images.{IsMemoryPlan};
 ghost use Rattle.memory_images.specs.Images.{images_of as view_images};
-ghost use Rattle.memory_images.specs.Views.{options_of};
-ghost use Rattle.init_plan.specs.Views.{memory_plan_of, initializers_of, passive_data_of, defined_sizes, ranges_of, passive_bytes, FindsInOrder, OnlyMemoriesChange, IsUnprocessed, IsProcessed, active_segment_of, SameButSegments};
+ghost use Rattle.memory_images.specs.Views.{active_segment_of, options_of};
+ghost use Rattle.init_plan.specs.Views.{memory_plan_of, initializers_of, passive_data_of, defined_sizes, ranges_of, passive_bytes, FindsInOrder, OnlyMemoriesChange, IsUnprocessed, IsProcessed, SameButSegments};
 ghost use Rattle.init_plan.specs.Images.{image_memories, AreSized, BeginsByRule, BeginsAsImages, KeepsSegments, Begins};
 ghost use Rattle.init_plan.specs.Ready.{MemoryHalfIsReady};
 

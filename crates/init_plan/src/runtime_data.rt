@@ -6,7 +6,8 @@ ghost use Rattle.std.specs.Option.{option_map};
 ghost use Rattle.entity_map.specs.Secondary.{value_at};
 ghost use Rattle.wasm_index.specs.Index.{number_of};
 ghost use Rattle.replay_spec.specs.Plan.{planned_from, ranges_from};
-ghost use Rattle.init_plan.specs.Views.{active_segment_of, passive_segment_of, planned_segment_of, total_bytes, bytes_of, FindsInOrder};
+ghost use Rattle.memory_images.specs.Views.{active_segment_of};
+ghost use Rattle.init_plan.specs.Views.{passive_segment_of, planned_segment_of, total_bytes, bytes_of, FindsInOrder};
 
 use crate::error::PlanError;
 use crate::translation::{MemorySegmentOffset, RuntimeBytes};

@@ -3,7 +3,8 @@
 ghost use Rattle.std.specs.Prelude.{◌≡◌, ◌++◌, ◌∷◌, [], length, map, Some, IfOk, OnOk, OnErr, IsSome};
 ghost use Rattle.std.specs.Option.{option_map};
 ghost use Rattle.wasm_index.specs.Index.{number_of};
-ghost use Rattle.init_plan.specs.Views.{active_segment_of, unprocessed_of, IsUnprocessed, bytes_of, passive_data_of, types_of, hints_of, hint_entries_of, IsNewTranslation, SameButPassive, SameButTypes, SameButHints};
+ghost use Rattle.memory_images.specs.Views.{active_segment_of};
+ghost use Rattle.init_plan.specs.Views.{unprocessed_of, IsUnprocessed, bytes_of, passive_data_of, types_of, hints_of, hint_entries_of, IsNewTranslation, SameButPassive, SameButTypes, SameButHints};
 
 use crate::debug_info::{BranchHint, DebugInfoData};
 use crate::private_parts::PrivateParts;

@@ -14,7 +14,8 @@ use Rattle.wasm_module.specs.declared.memory_initialization.MemoryInitializer.{M
 use Rattle.replay_spec.specs.Data.{active_of_kind}
 use Rattle.replay_spec.specs.Held.{any_nulls, held_segment}
 use Rattle.init_plan.specs.declared.translation.ModuleTranslation.{ModuleTranslation}
-use Rattle.init_plan.specs.Views.{active_segment_of, SameButPassive}
+use Rattle.memory_images.specs.Views.{active_segment_of}
+use Rattle.init_plan.specs.Views.{SameButPassive}
 use Rattle.module_environ.specs.Initialisers.{passive_data_from}
 use Rattle.module_environ.proofs.HeldExpressions.{seen-is}
 

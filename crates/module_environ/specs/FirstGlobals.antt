@@ -5,14 +5,15 @@ use Rattle.wasm_convert.specs.declared.operators.ConstOp.{ConstOp}
 use Rattle.wasm_convert.specs.Constants.{expression_of}
 use Rattle.replay_spec.specs.Values.{Value, const_value}
 use Rattle.module_environ.specs.declared.globals.FirstGlobals.{FirstGlobals}
-use Rattle.module_environ.specs.Initialisers.{view_value, view_initialiser}
+use Rattle.init_plan.specs.Held.{simple_global_of}
+use Rattle.module_environ.specs.Initialisers.{view_initialiser}
 
 -- each global is in one of the lists
 abbrev pub seen_globals : FirstGlobals → ℕ
 seen_globals g = length g.known.items + length g.left.items
 
 abbrev pub view_known : FirstGlobals → List (ℕ × Value)
-view_known g = map view_value g.known.items
+view_known g = map simple_global_of g.known.items
 
 abbrev pub view_left : FirstGlobals → List (ℕ × List ConstOp)
 view_left g = map (view_initialiser (λ e. e)) g.left.items

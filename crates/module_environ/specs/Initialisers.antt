@@ -11,8 +11,7 @@ use Rattle.wasm_index.specs.Index.{number_of}
 use Rattle.wasm_types.specs.ValueViews.{Name, reference_of as view_reference}
 use Rattle.wasm_convert.specs.declared.operators.ConstOp.{ConstOp}
 use Rattle.wasm_convert.specs.Conversion.{LookUp}
-use Rattle.wasm_convert.specs.Constants.{const_ops_of, plain_value_of}
-use Rattle.wasm_convert.specs.declared.values.GlobalConstValue.{GlobalConstValue}
+use Rattle.wasm_convert.specs.Constants.{const_ops_of}
 use Rattle.wasm_module.specs.declared.table_initialization.TableInitialValue.{TableInitialValue}
 use Rattle.wasm_module.specs.declared.table_initialization.TableInitialValue.TheVariants as initial
 use Rattle.wasm_module.specs.declared.table_initialization.TableSegment.{TableSegment}
@@ -33,9 +32,6 @@ known_values globals = filter_map simple_of (initialisers globals)
 
 abbrev pub left_initialisers : LookUp → List GlobalDef → List (ℕ × List ConstOp)
 left_initialisers look globals = map (λ g. (g.0, const_ops_of look g.1)) (filter_map kept_of (initialisers globals))
-
-abbrev pub view_value : Index DefinedGlobalSpace × GlobalConstValue → ℕ × Value
-view_value g = (number_of g.0, plain_value_of g.1)
 
 abbrev pub view_initialiser : {C : Type 0} → (C → List ConstOp) → Index DefinedGlobalSpace × C → ℕ × List ConstOp
 view_initialiser ops g = (number_of g.0, ops g.1)

@@ -30,7 +30,8 @@ use Rattle.module_environ.specs.Customs.{HasCustoms}
 use Rattle.module_environ.specs.Entities.{count_of, imported_entities, exported_entities, resolved_import, resolved_export, function_types, tables_data, globals_data, tags_of}
 use Rattle.module_environ.specs.Escapes.{escaping, AreSignatures}
 use Rattle.module_environ.specs.Pooled.{pool_of, HasText, HasTexts}
-use Rattle.module_environ.specs.Initialisers.{known_values, left_initialisers, view_value, view_initialiser, first_values, view_first_value, active_elements, view_segment, passive_items, view_items, passive_numbers, passive_data_from}
+use Rattle.init_plan.specs.Held.{simple_global_of}
+use Rattle.module_environ.specs.Initialisers.{known_values, left_initialisers, view_initialiser, first_values, view_first_value, active_elements, view_segment, passive_items, view_items, passive_numbers, passive_data_from}
 
 -- where the code section's contents begin, and 0 without one
 abbrev pub code_places : plain.Payload → List ℕ
@@ -92,7 +93,7 @@ NeedsHeap r = r.needs_gc_heap ≡ list_any (λ table. heap_is_collected table.re
 -- globals whose value is known, and the initialisers of the others
 abbrev pub HasGlobals : plain.Module → ModuleTranslation → Type 0
 HasGlobals m t = record {
-  known : map view_value t.module.global_initializers.items ≡ known_values (lists_of_module m).globals;
+  known : map simple_global_of t.module.global_initializers.items ≡ known_values (lists_of_module m).globals;
   left : map (view_initialiser (λ e. e)) t.global_initializers.items ≡ left_initialisers (look_up_in m) (lists_of_module m).globals;
 }
 

@@ -7,7 +7,8 @@ ghost use Rattle.form_data.specs.Views.{segment_of};
 ghost use Rattle.form_lists.specs.Source.{source_module};
 ghost use Rattle.replay_spec.specs.Data.{active_of_kind};
 ghost use Rattle.replay_spec.specs.Held.{held_segment, held_segments};
-ghost use Rattle.init_plan.specs.Views.{active_segment_of, initializers_of, passive_data_of, IsUnprocessed, SameButPassive};
+ghost use Rattle.memory_images.specs.Views.{active_segment_of};
+ghost use Rattle.init_plan.specs.Views.{initializers_of, passive_data_of, IsUnprocessed, SameButPassive};
 ghost use Rattle.module_environ.specs.Initialisers.{passive_data_from};
 ghost use Rattle.module_environ.specs.Segments.{AreDataConvertible, IsDataConvertible};
 

@@ -7,7 +7,8 @@ ghost use Rattle.form_lists.specs.Source.{source_module};
 ghost use Rattle.module_environ.specs.Convertible.{IsConvertible};
 ghost use Rattle.module_environ.specs.Escapes.{referred};
 ghost use Rattle.module_environ.specs.EscapeLog.{after_escapes};
-ghost use Rattle.module_environ.specs.Initialisers.{known_values, left_initialisers, view_value, view_initialiser};
+ghost use Rattle.init_plan.specs.Held.{simple_global_of};
+ghost use Rattle.module_environ.specs.Initialisers.{known_values, left_initialisers, view_initialiser};
 ghost use Rattle.module_environ.specs.FirstGlobals.{seen_globals, AddsInitialiser};
 
 use crate::escapes::Escaping;
@@ -38,7 +39,7 @@ pub(crate) fn first_globals(
 ) -> Result<FirstGlobals, OutOfMemory>
     requires convertible { All (λ g. IsConvertible (knows env.now) escaping.old.count g.init) (flat_map globals_of_section (source_module source)) }
     requires few { length (flat_map globals_of_section (source_module source)) < u32.MAX }
-    ensures known { IfOk result (λ g. map view_value g.known.items ≡ known_values (flat_map globals_of_section (source_module source.entry))) }
+    ensures known { IfOk result (λ g. map simple_global_of g.known.items ≡ known_values (flat_map globals_of_section (source_module source.entry))) }
     ensures left { IfOk result (λ g. map (view_initialiser (λ e. e)) g.left.items
         ≡ left_initialisers (look_up env.now) (flat_map globals_of_section (source_module source.entry))) }
     ensures noted { OnOk result (escaping.new

@@ -20,7 +20,7 @@ use Rattle.replay_spec.specs.Values.{Value, I32, I64, F32, F64, V128}
 use Rattle.module_customs.specs.Names.{Text, named, HasLast, HasLocals, AreLocals, at_number}
 use Rattle.module_customs.specs.Names.{local_names as names_at}
 use Rattle.init_plan.specs.declared.debug_info.NameSection.{NameSection}
-use Rattle.module_environ.specs.Initialisers.{view_value}
+use Rattle.init_plan.specs.Held.{simple_global_of}
 use Rattle.plan_laws.specs.Kept.{IsSized, Rises}
 use Rattle.plan_laws.specs.Same.{local_names, locals_named}
 use Rattle.plan_laws.proofs.Ascending.{same-pairs}
@@ -51,14 +51,14 @@ known_from g = (index_of g.0, value_from g.1)
 abbrev IsSizedAt : Known → Type 0
 IsSizedAt g = IsSized g.1
 
-known-from-is : (gs : List Known) → All IsSizedAt gs → map known_from (map view_value gs) ≡ gs
+known-from-is : (gs : List Known) → All IsSizedAt gs → map known_from (map simple_global_of gs) ≡ gs
 known-from-is [] sized = refl
 known-from-is (g ∷ gs) sized =
     let head = value-from-is g.1 (All-head IsSizedAt g gs sized) in
     let tail = known-from-is gs (All-tail IsSizedAt g gs sized) in
     λ i. (g.0, head i) ∷ tail i
 
-pub values-told : (gs hs : List Known) → All IsSizedAt gs → All IsSizedAt hs → map view_value gs ≡ map view_value hs → gs ≡ hs
+pub values-told : (gs hs : List Known) → All IsSizedAt gs → All IsSizedAt hs → map simple_global_of gs ≡ map simple_global_of hs → gs ≡ hs
 values-told gs hs a b same = sym (known-from-is gs a) ∙ ap (map known_from) same ∙ known-from-is hs b
 
 -- one more value of a list, and all of them

@@ -28,7 +28,8 @@ use Rattle.init_plan.specs.declared.translation.ModuleTranslation.{ModuleTransla
 use Rattle.init_plan.specs.Views.{images_of, planned_segment_of, processed_of, memory_plan_of}
 use Rattle.module_environ.specs.Entities.{imports_after, resolved_import, resolved_export}
 use Rattle.module_environ.specs.Escapes.{AreSignatures}
-use Rattle.module_environ.specs.Initialisers.{initialisers, view_value, view_initialiser, view_items, view_segment, active_elements, passive_data_from}
+use Rattle.init_plan.specs.Held.{simple_global_of}
+use Rattle.module_environ.specs.Initialisers.{initialisers, view_initialiser, view_items, view_segment, active_elements, passive_data_from}
 use Rattle.module_environ.specs.Types.{look_up_in}
 use Rattle.module_environ.proofs.DeclaredLooks.{listed-long}
 use Rattle.translate.specs.Initialised.{IsInitialised, Finds, passive_bytes_of}
@@ -127,7 +128,7 @@ module _ (i : InitOptions) (bytes : List ℕ) (m : plain.Module) (keeps : Keeps 
   pub known : length t.module.global_initializers.items ≤ length globals
   known = omega (
     arith,
-    sym (length-map t.module.global_initializers.items view_value) ∙ ap length rest.globals.known,
+    sym (length-map t.module.global_initializers.items simple_global_of) ∙ ap length rest.globals.known,
     kept-few simple_of (initialisers globals),
     first-count,
   )

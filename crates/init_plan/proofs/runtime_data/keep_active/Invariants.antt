@@ -1,7 +1,8 @@
 use Rattle.std.proofs.Common.{◌≡◌, ◌+◌, ◌++◌, length, map}
 use Rattle.std.specs.Vec.Iter.{into_iter_items}
 use Rattle.replay_spec.specs.Plan.{planned_from}
-use Rattle.init_plan.specs.Views.{active_segment_of, planned_segment_of, bytes_of}
+use Rattle.memory_images.specs.Views.{active_segment_of}
+use Rattle.init_plan.specs.Views.{planned_segment_of, bytes_of}
 use Rattle.init_plan.proofs.runtime_data.keep_active.Given as goal
 
 -- what is planned so far, with the plan of the remaining segments, is the plan of all segments

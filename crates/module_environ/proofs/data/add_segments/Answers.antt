@@ -9,7 +9,8 @@ use Rattle.form_lists.specs.Walk.{walk_left}
 use Rattle.form_lists.proofs.Taking.{taken}
 use Rattle.replay_spec.specs.Data.{ActiveSegment, active_of_kind}
 use Rattle.replay_spec.specs.Held.{held_segment}
-use Rattle.init_plan.specs.Views.{active_segment_of, passive_data_of}
+use Rattle.memory_images.specs.Views.{active_segment_of}
+use Rattle.init_plan.specs.Views.{passive_data_of}
 use Rattle.module_environ.specs.Initialisers.{passive_data_from}
 use Rattle.module_environ.specs.Segments.{IsDataConvertible}
 use Rattle.module_environ.proofs.Filling.{added_more}

@@ -7,7 +7,8 @@ use Rattle.form_lists.specs.Source.{source_module}
 use Rattle.form_lists.specs.Walk.{walk_left}
 use Rattle.replay_spec.specs.Data.{active_of_kind}
 use Rattle.replay_spec.specs.Held.{held_segment, held_segments}
-use Rattle.init_plan.specs.Views.{active_segment_of, passive_data_of, SameButPassive}
+use Rattle.memory_images.specs.Views.{active_segment_of}
+use Rattle.init_plan.specs.Views.{passive_data_of, SameButPassive}
 use Rattle.module_environ.specs.Initialisers.{passive_data_from}
 use Rattle.module_environ.specs.Segments.{AreDataConvertible}
 use Rattle.module_environ.proofs.data.add_segments.Given as goal

@@ -3,9 +3,9 @@ use Rattle.std.proofs.lemmas.List.{length-map}
 use Rattle.std.specs.Option.{option_map}
 use Rattle.entity_map.specs.Secondary.{value_at}
 use Rattle.wasm_index.specs.Index.{number_of}
-use Rattle.memory_images.specs.Views.{options_of}
+use Rattle.memory_images.specs.Views.{active_segment_of, options_of}
 use Rattle.init_plan.specs.declared.translation.ModuleTranslation.{ModuleTranslation}
-use Rattle.init_plan.specs.Views.{initializers_of, active_segment_of, passive_segment_of, passive_data_of, passive_bytes, bytes_of, FindsInOrder}
+use Rattle.init_plan.specs.Views.{initializers_of, passive_segment_of, passive_data_of, passive_bytes, bytes_of, FindsInOrder}
 use Rattle.init_plan.proofs.Planning.{few_images, stands, planned_sized, agrees_sized}
 use Rattle.init_plan.proofs.Sized.{fits_sized}
 use Rattle.init_plan.proofs.translation.ModuleTranslation.plan_memories.Goals as goal
