@@ -10,4 +10,5 @@ pub mod WorkedHints
 pub mod WorkedNames
 pub mod NameSpellings
 pub mod OnlyTold
+pub mod Namings
 pub mod ToldNames
