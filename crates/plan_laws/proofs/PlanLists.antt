@@ -32,7 +32,8 @@ use Rattle.init_plan.specs.Held.{simple_global_of}
 use Rattle.module_environ.specs.Initialisers.{initialisers, view_initialiser, view_items, view_segment, active_elements, passive_data_from}
 use Rattle.module_environ.specs.Types.{look_up_in}
 use Rattle.module_environ.proofs.DeclaredLooks.{listed-long}
-use Rattle.translate.specs.Initialised.{IsInitialised, Finds, passive_bytes_of}
+use Rattle.translate.specs.Also.{Finds, passive_bytes_of}
+use Rattle.translate.specs.Initialised.{IsInitialised}
 use Rattle.translate.specs.Options.{InitOptions, images, passive_bytes}
 use Rattle.plan_laws.specs.TextCosts.{images_in, segments_in}
 use Rattle.plan_laws.proofs.AscendingCount.{ascending-few}
@@ -213,4 +214,4 @@ module _ (i : InitOptions) (bytes : List ℕ) (m : plain.Module) (keeps : Keeps 
   )
 
   pub found : count_by is_some t.runtime_data_map.items ≤ length (plain.segments m)
-  found = found-few plan.runtime t.runtime_data_map.default t.runtime_data_map.items (plain.segments m) is.memories.passive
+  found = found-few plan.runtime t.runtime_data_map.default t.runtime_data_map.items (plain.segments m) is.also.passive

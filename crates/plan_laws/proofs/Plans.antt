@@ -43,7 +43,8 @@ use Rattle.module_environ.specs.Customs.{names_asked}
 use Rattle.module_environ.specs.Types.{interned_list, type_index, look_up_in}
 use Rattle.module_environ.specs.Readable.{IsReadable}
 use Rattle.plan.specs.declared.plan.Plan.{Plan}
-use Rattle.translate.specs.Initialised.{IsInitialised, Finds, passive_bytes_of}
+use Rattle.translate.specs.Also.{Finds, passive_bytes_of}
+use Rattle.translate.specs.Initialised.{IsInitialised}
 use Rattle.translate.specs.Contexts.{context_of}
 use Rattle.translate.specs.Options.{Options, header_size, runs, startup_by, BecomesImages, PlansMemories, PlansTables}
 use Rattle.translate.specs.Planned.{IsPlanOf, IsPlanned, HoldsTypes}
@@ -211,13 +212,13 @@ module _ (one-startup : OneStartup) (one-context : OneContext) (o : Options) (by
 
   finds : (index : ℕ) → Finds (memory_plan_of t).runtime ((memory_plan_of u).passive index) (option_and_then passive_bytes_of (slice_get (plain.segments m) index))
   finds index = subst (λ (runtime : List (List ℕ)). Finds runtime ((memory_plan_of u).passive index) (option_and_then passive_bytes_of (slice_get (plain.segments m) index)))
-      (sym memories.runtime) (are.memories.passive index)
+      (sym memories.runtime) (are.also.passive index)
 
   passive : (index : ℕ) → value_at t.runtime_data_map index ≡ value_at u.runtime_data_map index
   passive index = tells (option-back index-back) _ _
       (found-same (memory_plan_of t).runtime (memory_plan_of t).passive (memory_plan_of u).passive (plain.segments m)
       (length (memory_plan_of t).runtime - length (passive_data_from 0 (plain.segments m))) is.memories.in_order (subst there (sym memories.runtime) are.memories.in_order)
-      is.memories.passive finds index)
+      is.also.passive finds index)
 
   -- ---- the record
 
@@ -271,8 +272,8 @@ module _ (one-startup : OneStartup) (one-context : OneContext) (o : Options) (by
     data_align = aligned;
     passive = x.data_segments ∙ sym y.data_segments;
     no_default = (
-      default-none (memory_plan_of t).runtime (plain.segments m) t.runtime_data_map is.memories.passive,
-      default-none (memory_plan_of u).runtime (plain.segments m) u.runtime_data_map are.memories.passive,
+      default-none (memory_plan_of t).runtime (plain.segments m) t.runtime_data_map is.also.passive,
+      default-none (memory_plan_of u).runtime (plain.segments m) u.runtime_data_map are.also.passive,
     );
     passive_data = passive;
     no_number = (numbers-default _ t.passive_elem_map x.numbers, numbers-default _ u.passive_elem_map y.numbers);

@@ -69,9 +69,8 @@ module _ (i : InitOptions) (m : Module) (old : ModuleTranslation) (has : HoldsDa
       processed = tell.processed;
       ranges = tell.ranges;
       fits = tell.fits;
-      passive = λ index. finds (memory_plan_of mid) (segments m) _ (rw has.passive at tell.found)
-          (λ k none. tell.others k (rw has.passive none)) index (slice_get (segments m) index) refl;
       in_order = rw has.passive at tell.found;
+      others = λ k none. tell.others k (rw has.passive none);
     })
 
     -- so do its images
@@ -80,4 +79,6 @@ module _ (i : InitOptions) (m : Module) (old : ModuleTranslation) (has : HoldsDa
       equal_types = told-apart m keeps;
       tight = to_module (λ n ms ss ps. HasTightImages (images i) n ms ss ps (memory_plan_of mid)) tell.tight;
       whole_ranges = tell.whole_ranges;
+      passive = λ index. finds (memory_plan_of mid) (segments m) _ (rw has.passive at tell.found)
+          (λ k none. tell.others k (rw has.passive none)) index (slice_get (segments m) index) refl;
     })

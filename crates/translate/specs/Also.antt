@@ -1,7 +1,8 @@
 -- What follows from the rest of what a plan promises. It says how the definitions work together, and
 -- an auditor may pass over it.
-use Rattle.std.specs.Prelude.{◌≡◌, ◌↔◌, ℕ, ◌<◌, length, map}
-use Rattle.wasm_spec.specs.Module.{Module, types, imported_memories, defined_memories}
+use Rattle.std.specs.Prelude.{◌≡◌, ◌↔◌, ℕ, ◌<◌, List, length, map, slice_get, Option, Some, None}
+use Rattle.std.specs.Option.{option_and_then}
+use Rattle.wasm_spec.specs.Module.{Module, DataKind, Passive, Active, Segment, types, imported_memories, defined_memories, segments}
 use Rattle.type_spec.specs.Equality.{SameType}
 use Rattle.form_types.specs.Placed.{placed_groups}
 use Rattle.replay_spec.specs.Held.{held_segments}
@@ -12,6 +13,20 @@ use Rattle.init_plan.specs.Images.{HasTightImages, HasWholeRanges}
 use Rattle.module_environ.specs.Types.{interned_at}
 use Rattle.translate.specs.Options.{InitOptions, images, passive_bytes}
 
+-- the bytes of a data segment that is passive
+abbrev pub bytes_if_passive : DataKind → List ℕ → Option (List ℕ)
+bytes_if_passive Passive bytes = Some bytes
+bytes_if_passive (Active memory offset) bytes = None
+
+abbrev pub passive_bytes_of : Segment → Option (List ℕ)
+passive_bytes_of s = bytes_if_passive s.kind s.bytes
+
+-- bytes are found at an index of the runtime data; where there are none, nothing is found
+abbrev pub Finds : List (List ℕ) → Option ℕ → Option (List ℕ) → Type 0
+Finds runtime (Some index) (Some bytes) = slice_get runtime index ≡ Some bytes
+Finds runtime None None = Unit {0}
+Finds runtime found bytes = ⊥
+
 pub record AlsoHolds (i : InitOptions) (m : Module) (t : ModuleTranslation) : Type 0 where
   -- two declared types have one index exactly where they are equal by group and position
   pub equal_types : (j k : ℕ) → j < length (types m) → k < length (types m)
@@ -21,3 +36,5 @@ pub record AlsoHolds (i : InitOptions) (m : Module) (t : ModuleTranslation) : Ty
       (passive_bytes m) (memory_plan_of t)
   -- the ranges of images go from page to page
   pub whole_ranges : HasWholeRanges i.page_size (memory_plan_of t).images (ranges_of t.module)
+  -- each passive segment is found with its bytes, and nothing else is found
+  pub passive : (index : ℕ) → Finds (memory_plan_of t).runtime ((memory_plan_of t).passive index) (option_and_then passive_bytes_of (slice_get (segments m) index))

@@ -1,7 +1,6 @@
 -- A translation whose memories and tables are planned.
-use Rattle.std.specs.Prelude.{◌≡◌, ℕ, ◌-◌, ◌^◌, ◌<◌, List, false, length, map, sum_by, slice_get, Option, Some, None}
-use Rattle.std.specs.Option.{option_and_then}
-use Rattle.wasm_spec.specs.Module.{Module, DataKind, Passive, Active, Segment, segments}
+use Rattle.std.specs.Prelude.{◌≡◌, ℕ, ◌-◌, ◌^◌, ◌<◌, List, false, length, map, sum_by, Contains, None}
+use Rattle.wasm_spec.specs.Module.{Module, segments}
 use Rattle.rule_spec.specs.Rules.{Keeps}
 use Rattle.wasm_index.specs.Index.{index_of}
 use Rattle.replay_spec.specs.Plan.{ranges_from}
@@ -19,20 +18,6 @@ use Rattle.module_environ.specs.Translation.{IsTranslation}
 use Rattle.module_environ.specs.Types.{interned_list, type_index}
 use Rattle.translate.specs.Options.{InitOptions, images, passive_bytes, startup_by, runs, BecomesImages, PlansMemories, PlansTables}
 use Rattle.translate.specs.Also.{AlsoHolds}
-
--- the bytes of a data segment that is passive
-abbrev pub bytes_if_passive : DataKind → List ℕ → Option (List ℕ)
-bytes_if_passive Passive bytes = Some bytes
-bytes_if_passive (Active memory offset) bytes = None
-
-abbrev pub passive_bytes_of : Segment → Option (List ℕ)
-passive_bytes_of s = bytes_if_passive s.kind s.bytes
-
--- bytes are found at an index of the runtime data; where there are none, nothing is found
-abbrev pub Finds : List (List ℕ) → Option ℕ → Option (List ℕ) → Type 0
-Finds runtime (Some index) (Some bytes) = slice_get runtime index ≡ Some bytes
-Finds runtime None None = Unit {0}
-Finds runtime found bytes = ⊥
 
 -- all but how memories and tables begin, runtime data, what remains to be written, and startup
 abbrev pub OnlyInitChanges : ModuleTranslation → ModuleTranslation → Type 0
@@ -70,11 +55,11 @@ pub record InitialisesMemories (i : InitOptions) (m : Module) (t : ModuleTransla
   -- the ranges of runtime data are end to end from 0
   pub ranges : ranges_of t.module ≡ ranges_from 0 (map length (memory_plan_of t).runtime)
   pub fits : sum_by length (memory_plan_of t).runtime < 2 ^ 32
-  -- each passive segment is found with its bytes, and nothing else is found
-  pub passive : (index : ℕ) → Finds (memory_plan_of t).runtime ((memory_plan_of t).passive index) (option_and_then passive_bytes_of (slice_get (segments m) index))
   -- the passive segments are found after the other runtime data, in order
   pub in_order : let plan = memory_plan_of t in let ps = passive_data_from 0 (segments m) in
       FindsInOrder plan.runtime plan.passive (length plan.runtime - length ps) ps
+  -- and nothing else is found
+  pub others : (index : ℕ) → ¬ Contains (map (λ p. p.0) (passive_data_from 0 (segments m))) index → (memory_plan_of t).passive index ≡ None
 
 -- the translation of the module, planned
 pub record IsInitialised (i : InitOptions) (bytes : List ℕ) (m : Module) (t : ModuleTranslation) : Type 0 where
