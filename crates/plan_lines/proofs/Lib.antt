@@ -1,5 +1,6 @@
 pub mod Decimal
 pub mod Hexadecimal
+mod Operators
 pub mod PartWritten
 pub mod Plain
 pub mod PlainTable

@@ -17,13 +17,6 @@ IsInPool pool atom = atom_number atom < length pool
 abbrev pub quoted_atom : List (List ℕ) → Atom → List ℕ
 quoted_atom pool atom = quoted_text (unwrap_or (slice_get pool (atom_number atom)) [])
 
-abbrev pub kind_text : EntityIndex → List ℕ
-kind_text (entity.Function i) = codes "function"
-kind_text (entity.Table i) = codes "table"
-kind_text (entity.Memory i) = codes "memory"
-kind_text (entity.Global i) = codes "global"
-kind_text (entity.Tag i) = codes "tag"
-
 -- the index of an entity among those of its kind
 abbrev pub kind_number : EntityIndex → ℕ
 kind_number (entity.Function i) = number_of i
@@ -34,7 +27,11 @@ kind_number (entity.Tag i) = number_of i
 
 -- an entity, by its kind
 abbrev pub entity_text : EntityIndex → List ℕ
-entity_text e = kind_text e ++ codes " " ++ decimal (kind_number e)
+entity_text (entity.Function i) = codes "function " ++ decimal (number_of i)
+entity_text (entity.Table i) = codes "table " ++ decimal (number_of i)
+entity_text (entity.Memory i) = codes "memory " ++ decimal (number_of i)
+entity_text (entity.Global i) = codes "global " ++ decimal (number_of i)
+entity_text (entity.Tag i) = codes "tag " ++ decimal (number_of i)
 
 -- an import: its index among the imports, the name of the module from which it comes, its own name,
 -- and its entity
