@@ -49,7 +49,7 @@ WORDS = [
     ("interned list", "type_spec", "interned", "the types of a module, each once, with trampolines, exception types and the startup type"),
     ("kept segment", "replay_spec", "kept_segments", "a segment that is in no image, so startup writes it"),
     ("listed rules", "rule_spec", "Keeps", "the ten rules of validation that are checked"),
-    ("lists", "rule_spec", "Lists", "the lists of a module, index spaces with imports first"),
+    ("lists", "rule_spec", "Lists", "the lists of a module, index spaces with imports first, made of its sections (`Module`). Rules and initialisers use the lists, in which an index is looked up; imports, memories and data segments are taken from the sections, whose order a plan keeps"),
     ("mapped type", "type_spec", "mapped", "a function type in which each reference is nullable, with the top of its hierarchy as heap type"),
     ("part", "wasm_spec", "Part", "a rule of the grammar: which bytes spell a value, and where reading stops"),
     ("phase", "replay_spec", "Phase", "one of three steps of instantiation: globals, tables, memories"),
