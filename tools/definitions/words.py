@@ -90,6 +90,7 @@ FUNCTIONS = {
     "next_multiple_of": (2, lambda number, unit: -(-number // unit) * unit if unit else number),
     "cast_unsigned": (2, lambda width, number: number % (1 << width)),
     # bytes and texts
+    "decimal": (1, lambda number: list(str(number).encode())),
     "codes": (1, lambda text: list(text.encode())),
     "bytes_eq": (2, lambda one, other: one == other),
     "from_le_bytes": (2, lambda width, given: int.from_bytes(bytes(given), "little")),
