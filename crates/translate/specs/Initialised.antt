@@ -1,5 +1,5 @@
 -- A translation whose memories and tables are planned.
-use Rattle.std.specs.Prelude.{◌≡◌, ℕ, ◌-◌, ◌^◌, ◌<◌, List, false, length, map, sum_by, Contains, None}
+use Rattle.std.specs.Prelude.{◌≡◌, ℕ, ◌-◌, ◌^◌, ◌<◌, List, false, length, map, sum_by, Contains, Some, None}
 use Rattle.wasm_spec.specs.Module.{Module, segments}
 use Rattle.rule_spec.specs.Rules.{Keeps}
 use Rattle.wasm_index.specs.Index.{index_of}
