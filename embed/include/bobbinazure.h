@@ -908,9 +908,10 @@ typedef struct {
     /* The offset of each of elements, as an expression. */
     bobbinazure_expressions element_places;
     /* The first value of the cells of each defined table; it has no operators where they begin
-       as null, or as table_images says. With lazy_tables an initialiser that became an image is
-       in no list: plan without that option to see what was written. */
-    bobbinazure_expressions table_values;
+       as null, or as table_images says. With lazy_tables an initialiser that became an image, of
+       a table without cells too, is in no list: plan without that option to see what was
+       written: table_values. */
+    bobbinazure_expressions tables;
     BOBBINAZURE_LIST(bobbinazure_import) imports; /* The imports, in order. */
     BOBBINAZURE_LIST(uint8_t) import_names;       /* The names of imports, end to end, in UTF-8. */
     BOBBINAZURE_LIST(bobbinazure_export) exports; /* The exports, in order. */
@@ -953,9 +954,9 @@ typedef struct {
     EACH(passive_segments) EACH(global_values) EACH(expressed_globals) \
     EACH(global_expressions.parts) EACH(global_expressions.operators) EACH(segment_places.parts) \
     EACH(segment_places.operators) EACH(element_places.parts) EACH(element_places.operators) \
-    EACH(table_values.parts) EACH(table_values.operators) EACH(imports) EACH(import_names) \
-    EACH(exports) EACH(export_names) EACH(module_names) EACH(layouts) EACH(layout_fields) \
-    EACH(interned) EACH(fields) EACH(trampolines) EACH(module_text) EACH(element_items.rows) \
+    EACH(tables.parts) EACH(tables.operators) EACH(imports) EACH(import_names) EACH(exports) \
+    EACH(export_names) EACH(module_names) EACH(layouts) EACH(layout_fields) EACH(interned) \
+    EACH(fields) EACH(trampolines) EACH(module_text) EACH(element_items.rows) \
     EACH(element_items.functions) EACH(element_items.expressions.parts) \
     EACH(element_items.expressions.operators) EACH(passive_items.rows) \
     EACH(passive_items.functions) EACH(passive_items.expressions.parts) \
@@ -1169,7 +1170,7 @@ typedef struct {
        goes from the end of name up to contents + size. */
     uint32_t contents;
     uint32_t size;     /* The length of its contents, in bytes. */
-    uint32_t has_name; /* Whether it is a custom section, with a name. */
+    uint32_t has_name; /* Whether it is a custom section that begins with a name. */
     /* The name, in the bytes of the module; else empty. It is never freed. */
     bobbinazure_bytes name;
 } bobbinazure_section;

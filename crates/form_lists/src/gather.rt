@@ -15,7 +15,7 @@ use crate::lists::{Lists, Spaces};
 use crate::sections::entries_of;
 use crate::source::{Section, Source, sections_of};
 use form_data::{GlobalDef, Import, Payload, TableDef};
-use form_reader::{DefinedFunction, DefinedTag, InputEntries, InputEntry, InputVector};
+use form_reader::{DefinedFunction, DefinedGlobal, DefinedTag, InputEntries, InputVector};
 use std::alloc::{AllocError, Global};
 use wasm_spec::{GlobalType, TableType, TypeRef};
 
@@ -142,16 +142,13 @@ fn add_globals(types: &mut Vec<GlobalType>, globals: &[GlobalDef]) -> Result<(),
     Ok(())
 }
 
+#[tactic(auto, using(form_reader::proofs::Listed::parts_listed))]
 fn add_input_globals(
     alloc: Global,
     types: &mut Vec<GlobalType>,
-    mut globals: InputVector<'_>,
+    globals: InputVector<'_>,
 ) -> Result<(), AllocError>
     ensures { OnOk result (types.new.items ≡ types.old.items ++ map (λ g. g.type) (vector_in global_entry.read globals.entry)) }
 {
-    let mut global = GlobalDef::none(alloc);
-    'globals: while globals.next_into::<GlobalDef>(alloc, &mut global)? {
-        types.push(global.ty)?;
-    }
-    Ok(())
+    globals.append_to::<DefinedGlobal>(alloc, types)
 }

@@ -10,7 +10,7 @@ pub mod OneConstant
 pub mod OperatorList
 pub mod Outcomes
 pub mod Passed
-pub mod PastGlobals
+pub mod FrequentGlobals
 pub mod PastOperators
 pub mod SameItems
 pub mod SectionLaws

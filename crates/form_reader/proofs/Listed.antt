@@ -1,6 +1,6 @@
 -- Entries that stay in the input: what a loop reads is what is listed, and how the first is taken.
-use Rattle.std.proofs.Common.{◌≡◌, ℕ, zero, suc, ◌+◌, ◌-◌, ◌<◌, ◌≤◌, List, [], ◌∷◌, ◌++◌, length, Result, Ok, Err, refl, sym, ap, subst, ◌∙◌, arith}
-use Rattle.form_reader.specs.Reading.{Reader, Fails, and_then, Fault, Bad, Stops, elements_at}
+use Rattle.std.proofs.Common.{◌≡◌, ℕ, zero, suc, ◌+◌, ◌-◌, ◌<◌, ◌≤◌, List, [], ◌∷◌, ◌++◌, length, map, Result, Ok, Err, refl, sym, ap, subst, ◌∙◌, arith}
+use Rattle.form_reader.specs.Reading.{Reader, Fails, and_then, Fault, Bad, Stops, elements_at, ◌>>=◌, gives_at}
 use Rattle.form_reader.specs.declared.error.ReadError.{ReadError}
 use Rattle.form_reader.specs.declared.error.ReadError.TheVariants as errors
 use Rattle.form_reader.specs.Input.{listed, listed_after}
@@ -88,6 +88,19 @@ module _ {A : Type 0} (read : Reader A) where
   unfolding listed
   listed_few zero bytes = omega arith
   listed_few (suc n) bytes = few_after n (listed_few n) (read bytes)
+
+  -- ---- a part of each
+
+  module _ {B : Type 0} (part : A → B) where
+    parts_after : (n : ℕ) → ((bytes : List ℕ) → listed (read >>= λ x. gives_at (part x)) n bytes ≡ map part (listed read n bytes))
+        → (r : Result (A × List ℕ) Fault) → listed_after (and_then r (λ x. Ok (part x.0, x.1))) (listed (read >>= λ x. gives_at (part x)) n) ≡ map part (listed_after r (listed read n))
+    parts_after n others (Ok x) = ap (λ xs. part x.0 ∷ xs) (others x.1)
+    parts_after n others (Err f) = refl
+
+    pub parts_listed : (n : ℕ) (bytes : List ℕ) → listed (read >>= λ x. gives_at (part x)) n bytes ≡ map part (listed read n bytes)
+    unfolding listed
+    parts_listed zero bytes = refl
+    parts_listed (suc n) bytes = parts_after n (parts_listed n) (read bytes)
 
   -- ---- the first of them
 

@@ -6,7 +6,8 @@ use Rattle.wasm_spec.specs.Module as plain
 use Rattle.std.specs.List.{flat_map}
 use Rattle.form_data.specs.declared.form.Custom.{Custom}
 use Rattle.form_data.specs.Views.{payload_of}
-use Rattle.form_reader.specs.Reading.{Fault, Reader}
+use Rattle.wasm_spec.specs.declared.entities.GlobalType.{GlobalType}
+use Rattle.form_reader.specs.Reading.{Fault, Reader, ◌>>=◌, gives_at}
 use Rattle.form_reader.specs.ReadingNumbers.{unsigned_at}
 use Rattle.form_reader.specs.TypeRows.{tag_type, group}
 use Rattle.form_reader.specs.SectionRows.{global_entry, element_segment, data_segment, custom_section}
@@ -33,6 +34,10 @@ listed read (suc n) bytes = listed_after (read bytes) (listed read n)
 -- the entries of a section
 abbrev pub vector_in : {A : Type 0} → Reader A → InputVector → List A
 vector_in read vector = listed read vector.count vector.bytes.now
+
+-- the type of a global, whose expression is passed over
+abbrev pub type_of_global_at : Reader GlobalType
+type_of_global_at = global_entry.read >>= λ g. gives_at g.type
 
 abbrev pub input_payload_of : InputEntries → plain.Payload
 input_payload_of (entries.Types groups) = plain.Types (vector_in group.read groups)

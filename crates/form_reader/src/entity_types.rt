@@ -18,9 +18,9 @@ impl<'d> Cursor<'d> {
         self.table_limits(element_type)
     }
 
-    /// A global type.
+    /// A global type, whether it is frequent or not.
     #[tactic(auto, unfolding(crate::specs::TypeRows::global_type))]
-    pub fn global_type(&mut self) -> Result<GlobalType, ReadError>
+    pub fn any_global_type(&mut self) -> Result<GlobalType, ReadError>
         ensures { Reads global_type.read (λ x. x) self.old.rest.now self.new.rest.now result }
     {
         let content_type = self.value_type()?;

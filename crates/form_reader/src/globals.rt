@@ -1,9 +1,11 @@
 //! Globals (core specification, 5.5, global section).
 
-ghost use Rattle.std.specs.Prelude.{refl};
+ghost use Rattle.std.specs.Prelude.{[], refl};
 ghost use Rattle.wasm_spec.specs.Module as plain;
+ghost use Rattle.wasm_spec.specs.declared.entities.GlobalType as declared;
 ghost use Rattle.form_data.specs.Views.{global_of};
 ghost use Rattle.form_reader.specs.SectionRows.{global_entry};
+ghost use Rattle.form_reader.specs.Input.{type_of_global_at};
 
 use crate::cursor::Cursor;
 use crate::error::ReadError;
@@ -12,6 +14,56 @@ use crate::input_vectors::{InputEntry, InputVector};
 use form_data::{ConstExpr, GlobalDef, Payload};
 use std::alloc::Global;
 use wasm_spec::{GlobalType, ValType};
+
+/// The types of the globals in the global section; their expressions are passed over.
+pub struct DefinedGlobal;
+
+impl<'d> InputEntry<'d> for DefinedGlobal {
+    type Value = GlobalType;
+
+    ghost Seen = { declared.GlobalType };
+
+    ghost form = { type_of_global_at };
+
+    ghost view = { λ x. x };
+
+    ghost of_section = { λ payload. [] };
+
+    ghost no_customs = { λ name bytes. refl };
+
+    /// A list of globals holds no list of their types.
+    fn in_payload<'f>(_payload: &'f Payload<'d>) -> &'f [GlobalType] {
+        &[]
+    }
+
+    #[tactic(auto, using(crate::proofs::Listed::none_there))]
+    fn in_input(_entries: InputEntries<'d>) -> InputVector<'d> {
+        InputVector::none()
+    }
+
+    #[inline]
+    fn none(_alloc: Global) -> GlobalType {
+        GlobalType {
+            content_type: ValType::I32,
+            mutable: false,
+        }
+    }
+
+    #[tactic(auto, unfolding(crate::specs::Reading::rest_at, crate::specs::SectionRows::global_entry))]
+    fn read_into(
+        ty: &mut GlobalType,
+        alloc: Global,
+        cursor: &mut Cursor<'d>,
+    ) -> Result<(), ReadError> {
+        *ty = cursor.global_type()?;
+        cursor.pass_expression(&mut Vec::new(alloc))
+    }
+
+    #[tactic(auto, unfolding(crate::specs::Reading::rest_at))]
+    fn pass(ty: &mut GlobalType, alloc: Global, cursor: &mut Cursor<'d>) -> Result<(), ReadError> {
+        Self::read_into(ty, alloc, cursor)
+    }
+}
 
 impl<'d> InputEntry<'d> for GlobalDef {
     type Value = GlobalDef;

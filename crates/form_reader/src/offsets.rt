@@ -1,6 +1,6 @@
 //! Offsets of segments (core specification, 5.4, expressions): most are one constant.
 
-ghost use Rattle.std.specs.Prelude.{◌≡◌, ℕ, List, [], ◌∷◌, Ok, IfSome};
+ghost use Rattle.std.specs.Prelude.{◌≡◌, ℕ, List, [], ◌∷◌, Ok, IfSome, IfOk, OnOk};
 ghost use Rattle.wasm_spec.specs.declared.operators.Operator.TheVariants.{I32Const};
 ghost use Rattle.form_reader.specs.Reading.{Reads};
 ghost use Rattle.form_reader.specs.ReadingNumbers.{unsigned_at, signed_at};
@@ -10,6 +10,7 @@ use crate::cursor::Cursor;
 use crate::error::ReadError;
 use crate::numbers::first_byte;
 use crate::operators::{END, I32_CONST};
+use std::alloc::{AllocError, Global};
 use wasm_spec::Operator;
 
 /// A signed number before an end mark, and the bytes after the mark, if these come next.
@@ -51,6 +52,31 @@ pub fn flagged_constant(bytes: &[u8]) -> Option<(i32, &[u8])>
     }
 }
 
+/// A list of one operator.
+#[inline(always)]
+pub fn one_operator(alloc: Global, operator: Operator) -> Result<Vec<Operator>, AllocError>
+    ensures { IfOk result (λ ops. ops.items ≡ operator ∷ []) }
+{
+    let mut ops = Vec::with_capacity(alloc, 1)?;
+    ops.push_reserved(operator);
+    Ok(ops)
+}
+
+/// Overwrites a list, whose contents are no longer needed, with one operator.
+#[inline(always)]
+pub fn write_only(ops: &mut Vec<Operator>, operator: Operator) -> Result<(), AllocError>
+    ensures { OnOk result (ops.new.items ≡ operator ∷ []) }
+{
+    if let [only] = ops.as_mut_slice() {
+        *only = operator;
+        return Ok(());
+    }
+    ops.clear();
+    ops.reserve_exact(1)?;
+    ops.push_reserved(operator);
+    Ok(())
+}
+
 impl<'d> Cursor<'d> {
     /// As `expression_into`.
     #[inline(always)]
@@ -59,10 +85,8 @@ impl<'d> Cursor<'d> {
     {
         match one_constant(self.rest) {
             Some((value, rest)) => {
-                ops.clear();
-                ops.reserve_exact(1)?;
-                ops.push_reserved(Operator::I32Const { value });
                 self.rest = rest;
+                write_only(ops, Operator::I32Const { value })?;
                 Ok(())
             }
             None => self.expression_into(ops),

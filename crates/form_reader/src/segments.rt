@@ -1,8 +1,9 @@
 //! Data segments (core specification, 5.5, data section).
 
-ghost use Rattle.std.specs.Prelude.{refl};
+ghost use Rattle.std.specs.Prelude.{◌≡◌, [], ◌∷◌, refl, OnOk};
 ghost use Rattle.wasm_spec.specs.Module as plain;
-ghost use Rattle.form_data.specs.Views.{segment_of};
+ghost use Rattle.wasm_spec.specs.declared.operators.Operator.TheVariants.{I32Const};
+ghost use Rattle.form_data.specs.Views.{data_kind_of, segment_of};
 ghost use Rattle.form_reader.specs.Reading.{Reads};
 ghost use Rattle.form_reader.specs.SectionRows.{active_segment, passive_segment, flagged_segment, data_segment};
 
@@ -10,9 +11,10 @@ use crate::cursor::Cursor;
 use crate::error::ReadError;
 use crate::input::InputEntries;
 use crate::input_vectors::{InputEntry, InputVector};
-use crate::offsets::flagged_constant;
-use form_data::{DataKind, DataSegment, Payload};
-use std::alloc::Global;
+use crate::offsets::{flagged_constant, one_operator, write_only};
+use form_data::{ConstExpr, DataKind, DataSegment, Payload};
+use std::alloc::{AllocError, Global};
+use wasm_spec::Operator;
 
 impl<'d> InputEntry<'d> for DataSegment<'d> {
     type Value = DataSegment<'d>;
@@ -49,14 +51,21 @@ impl<'d> InputEntry<'d> for DataSegment<'d> {
         }
     }
 
-    #[tactic(auto, unfolding(crate::specs::SectionRows::data_segment))]
+    #[tactic(auto, unfolding(crate::specs::SectionRows::data_segment, crate::specs::SectionRows::flagged_segment, crate::specs::SectionRows::active_segment))]
     fn read_into(
         segment: &mut DataSegment<'d>,
         alloc: Global,
         cursor: &mut Cursor<'d>,
     ) -> Result<(), ReadError> {
-        let flag = cursor.u32()?;
-        cursor.flagged_segment(alloc, flag, segment)
+        match flagged_constant(cursor.rest) {
+            Some((value, rest)) => {
+                cursor.rest = rest;
+                begin_at(alloc, &mut segment.kind, value)?;
+                segment.bytes = cursor.counted_bytes()?;
+                Ok(())
+            }
+            None => cursor.any_segment(alloc, segment),
+        }
     }
 
     #[tactic(auto, unfolding(crate::specs::Reading::rest_at, crate::specs::SectionRows::data_segment, crate::specs::SectionRows::flagged_segment, crate::specs::SectionRows::active_segment))]
@@ -71,13 +80,45 @@ impl<'d> InputEntry<'d> for DataSegment<'d> {
                 cursor.counted_bytes()?;
                 Ok(())
             }
-            None => Self::read_into(segment, alloc, cursor),
+            None => cursor.any_segment(alloc, segment),
         }
     }
 }
 
+/// Overwrites the place of a segment, and reuses its list: memory 0, at a constant.
+#[inline(always)]
+fn begin_at(alloc: Global, kind: &mut DataKind, value: i32) -> Result<(), AllocError>
+    ensures { OnOk result (data_kind_of kind.new ≡ plain.Active 0 (I32Const value ∷ [])) }
+{
+    let operator = Operator::I32Const { value };
+    if let DataKind::Active {
+        memory_index,
+        offset,
+    } = kind
+    {
+        *memory_index = 0;
+        return write_only(&mut offset.ops, operator);
+    }
+    *kind = DataKind::Active {
+        memory_index: 0,
+        offset: ConstExpr {
+            ops: one_operator(alloc, operator)?,
+        },
+    };
+    Ok(())
+}
+
 // Each of these overwrites a segment that is no longer needed, and reuses its list.
 impl<'d> Cursor<'d> {
+    /// A data segment, whether it is frequent or not.
+    #[tactic(auto, unfolding(crate::specs::SectionRows::data_segment))]
+    fn any_segment(&mut self, alloc: Global, segment: &mut DataSegment<'d>) -> Result<(), ReadError>
+        ensures { Reads data_segment.read (λ u. segment_of segment.new) self.old.rest.now self.new.rest.now result }
+    {
+        let flag = self.u32()?;
+        self.flagged_segment(alloc, flag, segment)
+    }
+
     /// A data segment, after its flag.
     #[tactic(auto, unfolding(crate::specs::SectionRows::flagged_segment))]
     fn flagged_segment(
@@ -100,7 +141,6 @@ impl<'d> Cursor<'d> {
     }
 
     /// An offset into a memory, and bytes.
-    #[inline(always)]
     #[tactic(auto, unfolding(crate::specs::SectionRows::active_segment))]
     fn active_segment(
         &mut self,
@@ -116,7 +156,7 @@ impl<'d> Cursor<'d> {
         } = &mut segment.kind
         {
             *memory = memory_index;
-            self.offset_into(&mut offset.ops)?;
+            self.expression_into(&mut offset.ops)?;
         } else {
             let offset = self.expression(alloc)?;
             segment.kind = DataKind::Active {

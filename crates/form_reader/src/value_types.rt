@@ -43,14 +43,6 @@ const HEAP_TYPES: [AbstractHeapType; 14] = [
 /// The byte of the vector type; the number types follow it in order.
 pub const FIRST_NUMBER_TYPE: u8 = 0x7B;
 
-const NUMBER_TYPES: [ValType; 5] = [
-    ValType::V128,
-    ValType::F64,
-    ValType::F32,
-    ValType::I64,
-    ValType::I32,
-];
-
 fn abstract_heap(byte: u8) -> Option<AbstractHeapType>
     ensures { result ≡ spec_abstract_heap byte }
 {
@@ -63,8 +55,14 @@ fn abstract_heap(byte: u8) -> Option<AbstractHeapType>
 pub fn number_type(byte: u8) -> Option<ValType>
     ensures { result ≡ named_by 0x7B number_types byte }
 {
-    let place = byte.checked_sub(FIRST_NUMBER_TYPE)?;
-    NUMBER_TYPES.get(usize::from(place)).copied()
+    match byte {
+        0x7B => Some(ValType::V128),
+        0x7C => Some(ValType::F64),
+        0x7D => Some(ValType::F32),
+        0x7E => Some(ValType::I64),
+        0x7F => Some(ValType::I32),
+        _ => None,
+    }
 }
 
 impl<'d> Entry<'d> for ValType {

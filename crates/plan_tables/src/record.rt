@@ -267,8 +267,9 @@ pub struct PlacesRecord<'d> {
     /// The offset of each of `elements`, as an expression: `element_places`.
     pub elements: ExpressionsRecord<'d>,
     /// The first value of the cells of each defined table; it has no operators where they begin as
-    /// null, or as `table_images` says. With `lazy_tables` an initialiser that became an image is in no
-    /// list: plan without that option to see what was written: `table_values`.
+    /// null, or as `table_images` says. With `lazy_tables` an initialiser that became an image, of a
+    /// table without cells too, is in no list: plan without that option to see what was written:
+    /// `table_values`.
     pub tables: ExpressionsRecord<'d>,
 }
 

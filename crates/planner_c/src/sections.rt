@@ -21,7 +21,7 @@ pub struct SectionRow<'d> {
     pub contents: u32,
     /// The length of its contents, in bytes.
     pub size: u32,
-    /// Whether it is a custom section, with a name.
+    /// Whether it is a custom section that begins with a name.
     pub has_name: u32,
     /// The name, in the bytes of the module; else empty. It is never freed.
     pub name: &'d [u8],

@@ -20,6 +20,8 @@ pub fn worked_rows()
         (record { kind = ActiveElement None (Operator.I32Const (pos 1) ∷ []); items = Functions (4 ∷ 2 ∷ []) }
         ∷ record { kind = DeclaredElement; items = Expressions (record { nullable = true; heap = HeapType.Abstract AbstractHeapType.Any }) ((Operator.I32Const (pos 5) ∷ Operator.RefI31 ∷ []) ∷ []) } ∷ []) in
         (map (λ row. row.kind) rows ≡ 1 ∷ 2 ∷ [])
+        × (map (λ row. row.table) rows ≡ 0 ∷ 0 ∷ [])
+        × (map (λ row. row.offset) rows ≡ 0 ∷ 0 ∷ [])
         × (map (λ row. row.expressed) rows ≡ 0 ∷ 1 ∷ [])
         × (map (λ row. row.element) rows ≡ record { kind = 5; nullable = 1; heap = 2; list = 0; index = 0 } ∷ record { kind = 5; nullable = 1; heap = 11; list = 0; index = 0 } ∷ [])
         × (map (λ row. row.functions) rows ≡ record { begin = 0; len = 2 } ∷ record { begin = 2; len = 0 } ∷ [])

@@ -128,9 +128,10 @@ pub(crate) struct PlanRecord {
     /// The offset of each of `elements`, as an expression.
     pub(crate) element_places: ExpressionsRecord,
     /// The first value of the cells of each defined table; it has no operators where they begin as
-    /// null, or as `table_images` says. With `lazy_tables` an initialiser that became an image is
-    /// in no list: plan without that option to see what was written.
-    pub(crate) table_values: ExpressionsRecord,
+    /// null, or as `table_images` says. With `lazy_tables` an initialiser that became an image, of
+    /// a table without cells too, is in no list: plan without that option to see what was written:
+    /// `table_values`.
+    pub(crate) tables: ExpressionsRecord,
     /// The imports, in order.
     pub(crate) imports: List<Import>,
     /// The names of imports, end to end, in UTF-8.
@@ -214,8 +215,8 @@ impl PlanRecord {
             self.segment_places.operators.free();
             self.element_places.parts.free();
             self.element_places.operators.free();
-            self.table_values.parts.free();
-            self.table_values.operators.free();
+            self.tables.parts.free();
+            self.tables.operators.free();
             self.imports.free();
             self.import_names.free();
             self.exports.free();
