@@ -4,8 +4,12 @@
 //! test `wasm_types`, `wasm_trace` and `wasm_convert`; `records`, `groups` and `builders` test
 //! `wasm_module` and `module_types`; `images` tests `memory_images`; `objects`, `structs` and
 //! `contexts` test `gc_layout`, `vm_structs` and `vm_offsets`; `names` tests `name_maps`.
+//! `read_forms`, `broken_rules` and `refused_places` test `wasm_form`, `rule_breaks` and
+//! `refusal_place`.
 #![tactic(auto)]
 
+#[cfg(test)]
+mod broken_rules;
 #[cfg(test)]
 mod builders;
 #[cfg(test)]
@@ -25,7 +29,11 @@ mod names;
 #[cfg(test)]
 mod objects;
 #[cfg(test)]
+mod read_forms;
+#[cfg(test)]
 mod records;
+#[cfg(test)]
+mod refused_places;
 #[cfg(test)]
 mod structs;
 #[cfg(test)]

@@ -24,8 +24,6 @@ mod data;
 mod kinds;
 mod locating;
 mod objects;
-#[cfg(test)]
-mod tests;
 mod translated;
 
 pub use kinds::{Excess, ExcessKind};

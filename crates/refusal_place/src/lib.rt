@@ -39,6 +39,3 @@ pub use search::locate;
 pub use section_list::{SectionPlace, section_places};
 pub use seek::contents_place;
 pub use worked::{worked_entry, worked_place, worked_sections};
-
-#[cfg(test)]
-mod tests;

@@ -66,8 +66,6 @@ mod references;
 mod refused;
 mod section_entries;
 mod segments;
-#[cfg(test)]
-mod tests;
 mod types;
 mod worked;
 

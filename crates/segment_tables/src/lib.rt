@@ -31,6 +31,3 @@ mod worked;
 pub use segment_rows::{DataSegmentRow, ElementSegmentRow, SegmentsRecord};
 pub use tables::{module_segments, segment_tables};
 pub use worked::{worked_references, worked_rows, worked_tables};
-
-#[cfg(test)]
-mod tests;

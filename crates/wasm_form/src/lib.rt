@@ -32,6 +32,3 @@ pub use wasm_spec::{
     AbstractHeapType, CoreTypeId, ExternalKind, FieldType, GlobalType, HeapType, MemoryType,
     Operator, RefType, StorageType, TableType, TypeRef, UnpackedIndex, ValType, What,
 };
-
-#[cfg(test)]
-mod tests;

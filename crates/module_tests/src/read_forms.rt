@@ -1,10 +1,10 @@
-//! Each call once, with ample memory.
+//! Modules that are read and checked: each call of `wasm_form` once, with ample memory.
 
-use crate::{
+use std::test::Fail;
+use wasm_form::{
     CheckError, Counts, DataKind, Operator, Payload, ReadError, Rule, Types, Validator, What,
     check, read_module,
 };
-use std::test::Fail;
 
 /// A memory of a page, and two segments, of which the second overlaps the first.
 const OVERLAP: [u8; 30] = [

@@ -1,8 +1,8 @@
-//! A module with segments of each kind, with ample memory.
+//! The tables of `segment_tables`, of a module with segments of each kind, with ample memory.
 
-use crate::{ElementSegmentRow, module_segments};
 use form_reader::ReadError;
 use plan_tables::{OperatorRow, Span, ValueRow};
+use segment_tables::{ElementSegmentRow, module_segments};
 use std::test::Fail;
 
 /// Five functions; a table and a memory; a global that begins as a reference to function 3; an

@@ -1,11 +1,11 @@
-//! Each public call once, with ample memory.
+//! Entries that break a rule: each public call of `rule_breaks` once, with ample memory.
 
-use crate::{
-    Break, BrokenRule, ModuleList, RuleFault, fault_of_break, locate_break, locate_broken_rule,
-};
 use form_reader::read_module;
 use form_rules::{CheckError, check};
 use refusal_place::SectionKind;
+use rule_breaks::{
+    Break, BrokenRule, ModuleList, RuleFault, fault_of_break, locate_break, locate_broken_rule,
+};
 use rule_spec::Rule;
 use std::test::Fail;
 

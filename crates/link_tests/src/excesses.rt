@@ -1,7 +1,7 @@
-//! Each public call once, with ample memory.
+//! What makes a module too large: each public call of `plan_excess` once, with ample memory.
 
-use crate::{Excess, ExcessKind, locate_excess};
 use command_words::Collector;
+use plan_excess::{Excess, ExcessKind, locate_excess};
 use refusal_place::SectionKind;
 use rule_breaks::EntryPlace;
 use std::test::Fail;

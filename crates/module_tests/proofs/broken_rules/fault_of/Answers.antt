@@ -1,5 +1,5 @@
 use Rattle.std.proofs.Common.{Err, ap}
-use Rattle.rule_breaks.proofs.tests.fault_of.Goals as goal
+use Rattle.module_tests.proofs.broken_rules.fault_of.Goals as goal
 
 pub locate_break-requires : goal.locate_break-requires
 locate_break-requires c = c.in-Err-Invalid.ensures.first c.in-Err-Invalid.rule (ap Err c.in-Err-Invalid.field-0-is)

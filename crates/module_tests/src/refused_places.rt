@@ -1,6 +1,6 @@
-//! Each call on small inputs, with ample memory.
+//! Places of refusals: each call of `refusal_place` on small inputs, with ample memory.
 
-use crate::{
+use refusal_place::{
     Fault, Place, SectionKind, SectionPlace, contents_place, entry_place, locate, section_places,
 };
 use std::test::Fail;
