@@ -142,7 +142,6 @@ fn add_globals(types: &mut Vec<GlobalType>, globals: &[GlobalDef]) -> Result<(),
     Ok(())
 }
 
-#[tactic(auto, using(form_reader::proofs::Listed::parts_listed))]
 fn add_input_globals(
     alloc: Global,
     types: &mut Vec<GlobalType>,

@@ -56,7 +56,7 @@ pub fn number_type(byte: u8) -> Option<ValType>
     ensures { result ≡ named_by 0x7B number_types byte }
 {
     match byte {
-        0x7B => Some(ValType::V128),
+        FIRST_NUMBER_TYPE => Some(ValType::V128),
         0x7C => Some(ValType::F64),
         0x7D => Some(ValType::F32),
         0x7E => Some(ValType::I64),
