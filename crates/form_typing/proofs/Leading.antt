@@ -7,7 +7,8 @@ use Rattle.wasm_spec.specs.declared.operators.Operator.TheVariants.{I32Const}
 use Rattle.rule_spec.specs.declared.classes.Class.{Class}
 use Rattle.rule_spec.specs.declared.classes.Class.TheVariants.{I32}
 use Rattle.rule_spec.specs.Lists.{Lists}
-use Rattle.rule_spec.specs.Typing.{Signature, signature, Step, Leads}
+use Rattle.rule_spec.specs.Typing.{Signature, signature}
+use Rattle.rule_spec.proofs.Stepping.{Step, Leads}
 use Rattle.form_typing.specs.Stack.{Taken}
 
 -- what an index past the operators reads

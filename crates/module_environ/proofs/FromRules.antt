@@ -18,7 +18,8 @@ use Rattle.rule_spec.specs.declared.classes.Class.{Class}
 use Rattle.rule_spec.specs.Lists.{Lists, Declared, kind_at}
 use Rattle.rule_spec.specs.TypeRules.{HeapIsBelow}
 use Rattle.rule_spec.specs.References.{OperatorRefersIn, ExpressionRefersIn}
-use Rattle.rule_spec.specs.Typing.{Signature, struct_fields, array_field, global_signature, refers_to, where_true, signature, Leads, HasClass}
+use Rattle.rule_spec.specs.Typing.{Signature, struct_fields, array_field, global_signature, refers_to, where_true, signature, HasClass}
+use Rattle.rule_spec.proofs.Stepping.{Leads, leads_to}
 use Rattle.wasm_convert.specs.Known.{Known}
 use Rattle.wasm_convert.specs.Operators.{KnowsOperator}
 use Rattle.module_environ.specs.Escapes.{referred_by, referred}
@@ -51,10 +52,13 @@ module _ (l : Lists) where
         All-cons InRange f rest (sized-below f (nat_lt f (length l.functions)) (refers_to []) s refl e) all
     with-referred _ s rest e all = all
 
-    pub functions-in-range : (e : Expression) (before after : List Class) → Leads l visible e before after → All InRange (referred e)
-    functions-in-range [] before after leads = All-nil InRange
-    functions-in-range (o ∷ e) before after leads =
-        with-referred o leads.1.signed (referred e) leads.1.is_signed (functions-in-range e leads.0 after leads.2)
+    functions-along : (e : Expression) (before after : List Class) → Leads l visible e before after → All InRange (referred e)
+    functions-along [] before after leads = All-nil InRange
+    functions-along (o ∷ e) before after leads =
+        with-referred o leads.1.signed (referred e) leads.1.is_signed (functions-along e leads.0 after leads.2)
+
+    pub functions-in-range : (e : Expression) (c : Class) → HasClass l visible e c → All InRange (referred e)
+    functions-in-range e c typed = functions-along e [] (c ∷ []) (leads_to l visible e c typed)
 
 -- over the lists of a module and what is known of its declared types
 module _ (l : Lists) (known : UnpackedIndex → Type 0) (knows : (i : ℕ) → i < length l.types → known (index.Module i)) where
@@ -96,14 +100,14 @@ module _ (l : Lists) (known : UnpackedIndex → Type 0) (knows : (i : ℕ) → i
         (operator-known o leads.1.signed leads.1.is_signed (All-head (OperatorRefersIn (length l.types)) o e refers))
         (operators-known e leads.0 after leads.2 (All-tail (OperatorRefersIn (length l.types)) o e refers))
 
-    some-operator : (e : Expression) (c : Class) → HasClass l visible e c → 0 < length e
+    some-operator : (e : Expression) (c : Class) → Leads l visible e [] (c ∷ []) → 0 < length e
     some-operator [] c typed = let none : 0 ≡ 1 = ap length typed in absurd (omega (arith, none))
     some-operator (o ∷ e) c typed = omega arith
 
     pub convertible : (e : Expression) (c : Class) → HasClass l visible e c → ExpressionRefersIn (length l.types) e
         → IsConvertible known (length l.functions) e
-    convertible e c typed refers = record {
-      some = some-operator e c typed;
-      operators = operators-known e [] (c ∷ []) typed refers;
-      in_range = functions-in-range l visible e [] (c ∷ []) typed;
+    convertible e c typed refers = let leads = leads_to l visible e c typed in record {
+      some = some-operator e c leads;
+      operators = operators-known e [] (c ∷ []) leads refers;
+      in_range = functions-in-range l visible e c typed;
     }

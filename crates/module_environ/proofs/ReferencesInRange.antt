@@ -49,7 +49,7 @@ module _ (m : plain.Module) (keeps : Keeps m) where
     by : (o : Option plain.Expression) → IfSome o (λ e. HasClass l (take l.imported_globals l.global_types) e class.Ref)
         → All InRange (referred_if_any o)
     by None is = All-nil InRange
-    by (Some e) is = functions-in-range l (take l.imported_globals l.global_types) e [] (class.Ref ∷ []) is
+    by (Some e) is = functions-in-range l (take l.imported_globals l.global_types) e class.Ref is
 
   tables : All InRange (flat_map (λ t. referred_if_any t.init) l.tables)
   tables = (All-parts InRange (λ (t : TableDef). referred_if_any t.init) l.tables).1 (λ k d lt. table (get_or l.tables k d) (typed.tables k d lt))
@@ -58,7 +58,7 @@ module _ (m : plain.Module) (keeps : Keeps m) where
   globals-from index [] are = All-nil InRange
   globals-from index (g ∷ gs) are =
       All-append InRange (referred g.init) (flat_map (λ h. referred h.init) gs)
-      (functions-in-range l (take index l.global_types) g.init [] _ are.0) (globals-from (index + 1) gs are.1)
+      (functions-in-range l (take index l.global_types) g.init _ are.0) (globals-from (index + 1) gs are.1)
 
   -- ---- exports
 
@@ -75,7 +75,7 @@ module _ (m : plain.Module) (keeps : Keeps m) where
   items : (i : ElementItems) → NamesFunctions l i → HasTypedItems l i → All InRange (item_functions i)
   items (Functions indices) named are = named
   items (Expressions type es) named are =
-      (All-parts InRange referred es).1 (λ k d lt. functions-in-range l l.global_types (get_or es k d) [] (class.Ref ∷ []) (are k d lt))
+      (All-parts InRange referred es).1 (λ k d lt. functions-in-range l l.global_types (get_or es k d) class.Ref (are k d lt))
 
   elements : All InRange (flat_map (λ e. item_functions e.items) l.elements)
   elements = (All-parts InRange (λ (e : Element). item_functions e.items) l.elements).1 (λ k d lt.

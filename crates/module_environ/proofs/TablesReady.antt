@@ -18,6 +18,7 @@ use Rattle.rule_spec.specs.declared.classes.Class.{Class}
 use Rattle.rule_spec.specs.declared.classes.Class.TheVariants as class
 use Rattle.rule_spec.specs.Lists.{Lists, lists_of_module}
 use Rattle.rule_spec.specs.Typing.{refers_to, HasClass}
+use Rattle.rule_spec.proofs.Stepping.{leads_to}
 use Rattle.rule_spec.specs.Expressions.{HasTypedItems, IsElementTyped}
 use Rattle.rule_spec.specs.Indices.{NamesTable, NamesFunctions, IsElementInRange}
 use Rattle.rule_spec.specs.Rules.{Keeps}
@@ -54,7 +55,9 @@ module _ (look : LookUp) (l : Lists) (visible : List GlobalType) (c : Class) whe
   cell e = unwrap_or (expression_cell e) None
 
   cell-any : (o : Operator) → HasClass l visible (o ∷ []) c → IsAmong (length l.functions) (cell (any_null o ∷ []))
-  cell-any (op.RefFunc f) typed = sized-below l f (nat_lt f (length l.functions)) (refers_to []) typed.1.signed refl typed.1.is_signed
+  cell-any (op.RefFunc f) typed =
+      let step = (leads_to l visible (op.RefFunc f ∷ []) c typed).1 in
+      sized-below l f (nat_lt f (length l.functions)) (refers_to []) step.signed refl step.is_signed
   cell-any _ typed = tt
 
   cell-one : (o : Operator) → HasClass l visible (o ∷ []) c → IsAmong (length l.functions) (cell (expression_of (const_ops_of look (o ∷ []))))

@@ -14,7 +14,8 @@ use Rattle.rule_spec.specs.declared.classes.Class.{Class}
 use Rattle.rule_spec.specs.declared.classes.Class.TheVariants as class
 use Rattle.rule_spec.specs.Lists.{Lists}
 use Rattle.rule_spec.specs.Expressions.{address_class}
-use Rattle.rule_spec.specs.Typing.{Signature, class_of, gives, refers_to, where_true, global_signature, signature, Step, Leads, HasClass, struct_at, array_at}
+use Rattle.rule_spec.specs.Typing.{Signature, class_of, gives, refers_to, where_true, global_signature, signature, HasClass, struct_at, array_at}
+use Rattle.rule_spec.proofs.Stepping.{Step, Leads, leads_to}
 
 -- a reference stands on the stack
 abbrev HasRef : List Class → Type 0
@@ -133,5 +134,5 @@ module _ (l : Lists) (visible : List GlobalType) where
 
   -- an expression that gives an address has none
   pub address-no-null : (e : Expression) (wide : Bool) → HasClass l visible e (address_class wide) → All IsNoNull e
-  address-no-null e true is = leads-no-null e [] (class.I64 ∷ []) is (λ h. h)
-  address-no-null e false is = leads-no-null e [] (class.I32 ∷ []) is (λ h. h)
+  address-no-null e true is = leads-no-null e [] (class.I64 ∷ []) (leads_to l visible e class.I64 is) (λ h. h)
+  address-no-null e false is = leads-no-null e [] (class.I32 ∷ []) (leads_to l visible e class.I32 is) (λ h. h)

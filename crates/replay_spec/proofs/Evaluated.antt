@@ -99,7 +99,7 @@ module _ (l : Lists) where
   last-value : (known : List Value) (index : ℕ) (d : GlobalDef) (more : List Expression) (v : Value) → length known ≡ index → HasClass l (take index l.global_types) d.init (class_at d)
       → eval known fields d.init ≡ Some v → eval (values_after fields known more) fields d.init ≡ Some v
   last-value known index d more v count typed is =
-      let reads : All (ReadsBelow index) d.init = reads-below l (take index l.global_types) index (omega (arith, length-take index l.global_types)) d.init [] _ typed in
+      let reads : All (ReadsBelow index) d.init = reads-below l (take index l.global_types) index (omega (arith, length-take index l.global_types)) d.init (class_at d) typed in
       sym (ap (option_and_then only_value) (same-run fields index known (values_after fields known more) (λ g lt. sym (stays fields more known g (omega arith))) d.init [] reads)) ∙ is
 
   record AreSet (known : List Value) (index : ℕ) (ds : List GlobalDef) : Type 0 where

@@ -17,7 +17,8 @@ use Rattle.wasm_spec.specs.Module.{Expression}
 use Rattle.rule_spec.specs.declared.classes.Class.{Class}
 use Rattle.rule_spec.specs.declared.classes.Class.TheVariants as class
 use Rattle.rule_spec.specs.Lists.{Lists}
-use Rattle.rule_spec.specs.Typing.{Signature, field_class, has_default, struct_at, array_at, refers_to, where_true, global_signature, signature, Leads, HasClass}
+use Rattle.rule_spec.specs.Typing.{Signature, field_class, has_default, struct_at, array_at, refers_to, where_true, global_signature, signature, HasClass}
+use Rattle.rule_spec.proofs.Stepping.{Leads, leads_to}
 use Rattle.replay_spec.specs.Values.{Value, I32, I64, Ref, I31, Term, Action, pushes, joined_i32, joined_i64, joins_i32, joins_i64, i31_of, converted, converts, allocates, action, acted, run, eval}
 use Rattle.replay_spec.specs.Classes.{IsOfClass, HaveClasses, field_count}
 
@@ -189,4 +190,4 @@ module _ (l : Lists) (visible : List GlobalType) (globals : List Value) (have : 
       (more.0, ap (option_and_then (run (λ op. acted (action globals (field_count l) op)) ops)) here.1 ∙ more.1, more.2)
 
   pub value-of-class : (e : Expression) (c : Class) → HasClass l visible e c → IsSomeAnd (eval globals (field_count l) e) (λ v. IsOfClass v c)
-  value-of-class e c h = grind (arith, (leads e [] (c ∷ []) [] h tt), one-value)
+  value-of-class e c h = grind (arith, (leads e [] (c ∷ []) [] (leads_to l visible e c h) tt), one-value)

@@ -6,6 +6,7 @@ use Rattle.std.specs.Option.{option_map, option_and_then}
 use Rattle.wasm_spec.specs.declared.operators.Operator.{Operator}
 use Rattle.wasm_spec.specs.declared.operators.Operator.TheVariants as op
 use Rattle.wasm_spec.specs.Module.{Expression}
+pub use Rattle.rule_spec.specs.Machine.{run, only_value, evaluated}
 
 -- ---- values
 
@@ -126,19 +127,6 @@ action globals fields op.AnyConvertExtern = converts to_any
 abbrev pub acted : Action → List Value → Option (List Value)
 acted a stack = let rest = length stack - a.takes in
     if nat_le a.takes (length stack) then option_map (λ v. take rest stack ++ v ∷ []) (a.makes (drop rest stack)) else None
-
--- the stack after operators, of which each makes such a step
-abbrev pub run : (Operator → List Value → Option (List Value)) → Expression → List Value → Option (List Value)
-run step [] stack = Some stack
-run step (op ∷ ops) stack = option_and_then (run step ops) (step op stack)
-
--- the value of a stack that holds exactly one
-abbrev pub only_value : List Value → Option Value
-only_value (v ∷ []) = Some v
-only_value _ = None
-
-abbrev pub evaluated : (Operator → List Value → Option (List Value)) → Expression → Option Value
-evaluated step e = option_and_then only_value (run step e [])
 
 -- the value of an expression
 abbrev pub eval : List Value → (ℕ → ℕ) → Expression → Option Value

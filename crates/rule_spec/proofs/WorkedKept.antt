@@ -15,6 +15,7 @@ use Rattle.rule_spec.specs.Limits.{HasLimits, IsOrdered}
 use Rattle.rule_spec.specs.Indices.{IsInSpace, CanStart, NamesMemory, IsElementInRange}
 use Rattle.rule_spec.specs.References.{OperatorRefersIn, ImportRefersIn, TableRefersIn, GlobalRefersIn, ElementRefersIn, BodyRefersIn, DataKindRefersIn, AllReferIn}
 use Rattle.rule_spec.specs.Typing.{Signature, HasClass}
+use Rattle.rule_spec.proofs.Stepping.{has_class}
 use Rattle.rule_spec.specs.Expressions.{HasTypedInitialiser, IsElementTyped, HasMemoryOffset, AreExpressionsTyped}
 use Rattle.rule_spec.specs.Rules.{TypesAreNamed, CountsAgree, HaveLimits, AreExported, AreInRange, IsInitialised, locals, Keeps}
 use Rattle.rule_spec.specs.Worked.{memory_as_a}
@@ -36,10 +37,10 @@ sum = record { takes = I32 ∷ I32 ∷ []; pushes = I32 }
 
 -- a number, and the sum of two, are an i32 in any module
 constant-typed : (l : Lists) (visible : List GlobalType) (n : ℕ) → HasClass l visible (op.I32Const (pos n) ∷ []) I32
-constant-typed l visible n = (I32 ∷ [], record { signed = number; rest = []; is_signed = refl; has_taken = refl; has_pushed = refl }, refl)
+constant-typed l visible n = has_class l visible (op.I32Const (pos n) ∷ []) I32 (I32 ∷ [], record { signed = number; rest = []; is_signed = refl; has_taken = refl; has_pushed = refl }, refl)
 
 pub sum-typed : (l : Lists) (visible : List GlobalType) → HasClass l visible (op.I32Const (pos 1) ∷ op.I32Const (pos 2) ∷ op.I32Add ∷ []) I32
-sum-typed l visible = (
+sum-typed l visible = has_class l visible (op.I32Const (pos 1) ∷ op.I32Const (pos 2) ∷ op.I32Add ∷ []) I32 (
   I32 ∷ [],
   record { signed = number; rest = []; is_signed = refl; has_taken = refl; has_pushed = refl },
   (

@@ -1,6 +1,6 @@
 -- Coarse typing of constant expressions: of a value only its class counts (core specification, 3.4,
 -- constant expressions).
-use Rattle.std.specs.Prelude.{◌≡◌, ℕ, Bool, true, false, ◌∷◌, [], ◌++◌, List, map, length, replicate, nat_lt, slice_get, Option, None, Some, if◌then◌else◌}
+use Rattle.std.specs.Prelude.{◌≡◌, ℕ, ◌-◌, Bool, true, false, ◌∷◌, [], ◌++◌, List, map, length, take, drop, replicate, nat_lt, slice_get, Option, None, Some, if◌then◌else◌}
 use Rattle.std.specs.Option.{option_and_then}
 use Rattle.std.specs.List.{list_all}
 use Rattle.wasm_spec.specs.declared.entities.GlobalType.{GlobalType}
@@ -11,6 +11,8 @@ use Rattle.wasm_spec.specs.TypeData.{Value, I32, I64, F32, F64, V128, Ref, Stora
 use Rattle.wasm_spec.specs.Module.{Expression}
 use Rattle.rule_spec.specs.declared.classes.Class.{Class}
 use Rattle.rule_spec.specs.declared.classes.Class.TheVariants as class
+use Rattle.rule_spec.specs.Classes.{decide_classes}
+use Rattle.rule_spec.specs.Machine.{evaluated}
 use Rattle.rule_spec.specs.Lists.{Lists, kind_at}
 
 -- ---- classes and defaults of types
@@ -116,20 +118,12 @@ signature l visible op.AnyConvertExtern = refers_to (class.Ref ∷ [])
 
 -- ---- expressions
 
--- an operator leads from one stack to another: the values that it takes are the last ones, and it
--- pushes one in their place
-pub record Step (l : Lists) (visible : List GlobalType) (op : Operator) (before after : List Class) : Type 0 where
-  pub signed : Signature
-  pub rest : List Class
-  pub is_signed : signature l visible op ≡ Some signed
-  pub has_taken : before ≡ rest ++ signed.takes
-  pub has_pushed : after ≡ rest ++ signed.pushes ∷ []
+-- the stack after an operator: the values that it takes are the last ones, and it pushes one in
+-- their place
+abbrev pub typed_step : Signature → List Class → Option (List Class)
+typed_step s stack = let rest = length stack - length s.takes in
+    if (decide_classes (drop rest stack) s.takes).0 then Some (take rest stack ++ s.pushes ∷ []) else None
 
--- operators lead from one stack to another, one after another
-abbrev pub Leads : Lists → List GlobalType → Expression → List Class → List Class → Type 0
-Leads l visible [] before after = before ≡ after
-Leads l visible (op ∷ ops) before after = (between : List Class) × Step l visible op before between × Leads l visible ops between after
-
--- an expression leads from the empty stack to one value of the class
-abbrev pub HasClass : Lists → List GlobalType → Expression → Class → Type 0
-HasClass l visible e c = Leads l visible e [] (c ∷ [])
+-- an expression leaves one value of the class on an empty stack
+unfoldable pub HasClass : Lists → List GlobalType → Expression → Class → Type 0
+HasClass l visible e c = evaluated (λ op stack. option_and_then (λ s. typed_step s stack) (signature l visible op)) e ≡ Some c

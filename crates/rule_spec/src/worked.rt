@@ -14,6 +14,7 @@ ghost use Rattle.rule_spec.specs.Worked.{pushes, three_types, two_globals, type_
 ghost use Rattle.rule_spec.specs.WorkedKept.{type_of_an_earlier, function_with_body, maximum_above_minimum, table_with_initialiser, global_of_a_sum, exported_by_two_names, function_to_start, segments_in_range, reference_to_type, overlapping};
 
 /// A small module that breaks each rule.
+#[tactic(auto, unfolding(crate::specs::Typing::HasClass))]
 pub fn worked_rules()
     ensures types { ¬ Satisfies rule.L1 (lists_of_module type_past_group) }
     ensures functions { ¬ Satisfies rule.L2 (lists_of_module function_without_type) }
@@ -70,6 +71,7 @@ pub fn worked_signatures()
 {}
 
 /// Operators one after another: `1 + 2` is an i32, and `1 +` has no class.
+#[tactic(auto, unfolding(crate::specs::Typing::HasClass))]
 pub fn worked_expressions()
     ensures sum { HasClass three_types [] (op.I32Const (pos 1) ∷ op.I32Const (pos 2) ∷ op.I32Add ∷ []) class.I32 }
     ensures short { (c : Class) → ¬ HasClass three_types [] (op.I32Const (pos 1) ∷ op.I32Add ∷ []) c }

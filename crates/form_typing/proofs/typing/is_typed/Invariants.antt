@@ -1,5 +1,5 @@
 use Rattle.std.proofs.Common.{[], take}
-use Rattle.rule_spec.specs.Typing.{Leads}
+use Rattle.rule_spec.proofs.Stepping.{Leads}
 use Rattle.form_lists.specs.Views.{lists_of}
 use Rattle.form_typing.proofs.typing.is_typed.Given as goal
 
