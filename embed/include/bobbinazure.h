@@ -141,7 +141,9 @@ enum {
     BOBBINAZURE_DECLARATIVE_SEGMENT = 2 /* an element segment alone */
 };
 
-/* When the startup function must run. */
+/* When the startup function must run, which the engine makes. It computes expressed_globals,
+ * table_values and passive_items, writes elements and then segments, each list in order, and calls
+ * `start` last. */
 enum {
     BOBBINAZURE_STARTUP_NONE = 0,
     BOBBINAZURE_STARTUP_ALWAYS = 1,
@@ -312,9 +314,9 @@ typedef struct { const uint8_t *at; size_t len; } bobbinazure_bytes;
 
 /* What a caller may choose; of a flag 0 is no. */
 typedef struct {
-    /* Whether memories begin as images, where the data segments allow it. A module can then
-       require max_image bytes with each memory that it defines, in some fifteen bytes of its
-       own. */
+    /* Whether memories begin as images. One active data segment that does not allow it prevents
+       all images. A module can otherwise require max_image bytes with each memory that it
+       defines, in some fifteen bytes of its own. */
     uint8_t cow;
     /* Whether tables begin as images, as far as their elements allow it. A module can then
        require 1,048,576 cells of four bytes with each table that it defines, in ten bytes of its
@@ -326,8 +328,8 @@ typedef struct {
     uint8_t pointer;      /* The bytes of a pointer of the target: 4 or 8. */
     uint8_t collector;    /* How objects are collected: 0 by counts (drc), 1 not at all (null). */
     uint64_t page_size;   /* The page size of images, in bytes: a power of two. */
-    /* Data of this extent or more, in bytes, become an image only where they fill more than half
-       of it. */
+    /* Data of a memory with this extent or more, in bytes, must fill more than half of it; else
+       no memory begins as an image. */
     uint64_t max_image;
 } bobbinazure_options;
 
@@ -406,7 +408,8 @@ typedef struct {
     uint8_t page_size_log2; /* The page size as an exponent of 2: 0 or 16. */
     uint8_t shared;         /* Whether threads may share it. */
     uint8_t wide;           /* Whether addresses have 64 bits. */
-    uint8_t bounded;        /* Whether a greatest size is declared. */
+    /* Whether a greatest size is declared, which may be BOBBINAZURE_UNBOUNDED too. */
+    uint8_t bounded;
 } bobbinazure_memory;
 
 /* A table. */
@@ -416,7 +419,8 @@ typedef struct {
     uint64_t maximum;
     bobbinazure_value element; /* The type of its elements, a reference. */
     uint32_t wide;             /* Whether indices have 64 bits. */
-    uint32_t bounded;          /* Whether a greatest size is declared. */
+    /* Whether a greatest size is declared, which may be BOBBINAZURE_UNBOUNDED too. */
+    uint32_t bounded;
 } bobbinazure_table;
 
 /* A global. */
@@ -820,13 +824,14 @@ typedef struct {
     /* Of an invalid module the rule that it breaks, from 1 to 10; of an unsupported one what is
        not supported, from BOBBINAZURE_COMPONENT on. */
     uint32_t refusal_detail;
-    /* The line of the refusal, as the program prints it. It is never freed. */
+    /* The line of the refusal, as the program prints it, with its line feed. It is never freed. */
     bobbinazure_bytes refusal_line;
     bobbinazure_entities entities;                /* How many entities there are. */
     /* When the startup function runs, from BOBBINAZURE_STARTUP_NONE on: never, always, or where
-       a memory does not begin as its image. */
+       a memory does not begin as its image. The engine makes that function. */
     uint32_t startup;
-    /* The interned type of the startup function; 0 where none runs. */
+    /* The interned type of the startup function. Read it only where one may run: 0 is a type
+       too. */
     uint32_t startup_type;
     /* Whether memories begin as images. There may be no image all the same. */
     uint32_t images_made;
@@ -835,8 +840,9 @@ typedef struct {
     uint64_t data_align;
     /* The index of the start function; BOBBINAZURE_NONE where there is none. */
     uint32_t start;
-    /* Whether a defined table can hold references that are collected. Where it is 0, imported
-       tables, globals and code may still need a heap. */
+    /* Whether a defined table has elements other than references to functions and continuations;
+       those to i31 count. Where it is 0, imported tables, globals and code may still need a
+       heap. */
     uint32_t needs_gc_heap;
     /* How many functions escape, so that the context has a reference to each. */
     uint64_t escaped_functions;
@@ -907,11 +913,10 @@ typedef struct {
     bobbinazure_expressions segment_places;
     /* The offset of each of elements, as an expression. */
     bobbinazure_expressions element_places;
-    /* The first value of the cells of each defined table; it has no operators where they begin
-       as null, or as table_images says. With lazy_tables an initialiser that became an image, of
-       a table without cells too, is in no list: plan without that option to see what was
-       written: table_values. */
-    bobbinazure_expressions tables;
+    /* The initialiser of each defined table. It has no operators where the table declares none,
+       or where lazy_tables made it an image, even of no cells; plan without that option to see
+       it. */
+    bobbinazure_expressions table_values;
     BOBBINAZURE_LIST(bobbinazure_import) imports; /* The imports, in order. */
     BOBBINAZURE_LIST(uint8_t) import_names;       /* The names of imports, end to end, in UTF-8. */
     BOBBINAZURE_LIST(bobbinazure_export) exports; /* The exports, in order. */
@@ -935,8 +940,9 @@ typedef struct {
     /* The locals of bodies, end to end, in runs of one type. */
     BOBBINAZURE_LIST(bobbinazure_locals) locals;
     uint32_t imported_func_count;                 /* How many functions are imported. */
-    /* The names of locals from the custom section name, by functions and then by locals. This
-       list and the next two are empty without native_debug. */
+    /* The names of locals from the custom section name, by functions and then by locals, as far
+       as the function is declared before that section; bobbinazure_names gives all. This list
+       and the next two are empty without native_debug. */
     BOBBINAZURE_LIST(bobbinazure_local_name) local_names;
     /* The locals of each defined function, a part of the next list. Its parameters are those of
        its type, which functions names. */
@@ -954,9 +960,9 @@ typedef struct {
     EACH(passive_segments) EACH(global_values) EACH(expressed_globals) \
     EACH(global_expressions.parts) EACH(global_expressions.operators) EACH(segment_places.parts) \
     EACH(segment_places.operators) EACH(element_places.parts) EACH(element_places.operators) \
-    EACH(tables.parts) EACH(tables.operators) EACH(imports) EACH(import_names) EACH(exports) \
-    EACH(export_names) EACH(module_names) EACH(layouts) EACH(layout_fields) EACH(interned) \
-    EACH(fields) EACH(trampolines) EACH(module_text) EACH(element_items.rows) \
+    EACH(table_values.parts) EACH(table_values.operators) EACH(imports) EACH(import_names) \
+    EACH(exports) EACH(export_names) EACH(module_names) EACH(layouts) EACH(layout_fields) \
+    EACH(interned) EACH(fields) EACH(trampolines) EACH(module_text) EACH(element_items.rows) \
     EACH(element_items.functions) EACH(element_items.expressions.parts) \
     EACH(element_items.expressions.operators) EACH(passive_items.rows) \
     EACH(passive_items.functions) EACH(passive_items.expressions.parts) \
@@ -986,14 +992,15 @@ typedef struct {
        the module is named by the type section: list is BOBBINAZURE_OF_SECTION, and heap is
        BOBBINAZURE_HEAP_DECLARED. */
     bobbinazure_value element;
-    /* Whether its items are written as constant expressions; else as function indices. */
+    /* Whether its items are written as constant expressions; else as function indices, and then
+       none is null: the segment fits a table of (ref func) too. */
     uint32_t expressed;
     bobbinazure_span functions; /* The items that are functions, a part of functions. */
     /* The items that are constant expressions, a part of expressions.parts. */
     bobbinazure_span expressions;
 } bobbinazure_element_segment;
 
-/* The segments of a module, and the functions that its bodies name. */
+/* The segments of a module, and what ref.func in its bodies may name. */
 typedef struct {
     BOBBINAZURE_LIST(bobbinazure_data_segment) data_segments; /* The data segments, in order. */
     /* The element segments, in order. */
@@ -1017,12 +1024,12 @@ typedef struct {
 
 /* What an import is given. */
 typedef struct {
-    /* What it is, from BOBBINAZURE_GIVEN on: 0 given, 1 missing, 2 a mismatch. */
-    uint32_t answer;
+    uint32_t answer; /* What it is, from BOBBINAZURE_GIVEN on: 0 given, 1 missing, 2 a mismatch. */
     /* Where it is given, the number of the export, from 0 on; of a mismatch the rule that it
        breaks, from BOBBINAZURE_MISMATCH_KIND on; else 0. */
     uint32_t detail;
-    bobbinazure_bytes line; /* The text of a mismatch, else empty. It is never freed. */
+    /* The text of a mismatch, without a line feed; else empty. It is never freed. */
+    bobbinazure_bytes line;
 } bobbinazure_import_answer;
 
 /* What each import of a module is given, or which module is refused. */
@@ -1032,7 +1039,7 @@ typedef struct {
     /* Why that module is refused: this field and the next two are those of a plan. */
     uint32_t refusal;
     uint32_t refusal_detail;
-    /* The line of the refusal, as the program prints it. It is never freed. */
+    /* The line of the refusal, as the program prints it, with its line feed. It is never freed. */
     bobbinazure_bytes refusal_line;
     /* The answer to each import of the second module, in order. */
     BOBBINAZURE_LIST(bobbinazure_import_answer) answers;
@@ -1046,15 +1053,15 @@ typedef struct {
 
 /* What an import of a program is given. */
 typedef struct {
-    /* What it is, from BOBBINAZURE_GIVEN on: 0 given, 1 missing, 2 a mismatch. */
-    uint32_t answer;
+    uint32_t answer; /* What it is, from BOBBINAZURE_GIVEN on: 0 given, 1 missing, 2 a mismatch. */
     /* Of a mismatch the rule that it breaks, from BOBBINAZURE_MISMATCH_KIND on; else 0. */
     uint32_t rule;
     /* Where it is given, the number of the module that exports it, from 0 on; else 0. */
     size_t module;
     /* Where it is given, the number of the export in that module, from 0 on; else 0. */
     size_t export_number;
-    bobbinazure_bytes line; /* The text of a mismatch, else empty. It is never freed. */
+    /* The text of a mismatch, without a line feed; else empty. It is never freed. */
+    bobbinazure_bytes line;
 } bobbinazure_program_answer;
 
 /* A module of a program that is linked. */
@@ -1074,7 +1081,8 @@ typedef struct {
        plan. */
     uint32_t refusal;
     uint32_t refusal_detail;
-    /* The line of the refusal, as the program prints it. It is never freed. */
+    /* Where the cause is a module, the line of its refusal, with its line feed; else empty. It
+       is never freed. */
     bobbinazure_bytes refusal_line;
     /* The number of the module at which the program is refused, from 0 on; 0 where it is linked. */
     size_t refused;
@@ -1166,12 +1174,13 @@ typedef struct {
 typedef struct {
     uint32_t id;       /* The id; no section of a module has one above 13. */
     uint32_t start;    /* The offset of the section, which begins with its id. */
-    /* The offset of its contents. Those of a custom section begin with its name; what follows
-       goes from the end of name up to contents + size. */
+    /* The offset of its contents. Where has_name is 1 they begin with the name; the rest goes
+       from the end of the name up to contents + size. */
     uint32_t contents;
     uint32_t size;     /* The length of its contents, in bytes. */
     uint32_t has_name; /* Whether it is a custom section that begins with a name. */
-    /* The name, in the bytes of the module; else empty. It is never freed. */
+    /* The name, in the bytes of the module. Without a name it is empty, and not in those bytes.
+       It is never freed. */
     bobbinazure_bytes name;
 } bobbinazure_section;
 

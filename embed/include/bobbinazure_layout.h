@@ -402,7 +402,7 @@ BOBBINAZURE_AT(plan, expressed_globals, 616);
 BOBBINAZURE_AT(plan, global_expressions, 632);
 BOBBINAZURE_AT(plan, segment_places, 664);
 BOBBINAZURE_AT(plan, element_places, 696);
-BOBBINAZURE_AT(plan, tables, 728);
+BOBBINAZURE_AT(plan, table_values, 728);
 BOBBINAZURE_AT(plan, imports, 760);
 BOBBINAZURE_AT(plan, import_names, 776);
 BOBBINAZURE_AT(plan, exports, 792);

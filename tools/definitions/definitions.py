@@ -12,7 +12,7 @@ class Definitions:
         self.sources = Sources(top)
         table = words.table()
         table[">>="] = Function(parts.joined, 2)
-        self.evaluator = Evaluator(self.sources, table, parts.table(), parts.WITNESSES)
+        self.evaluator = Evaluator(self.sources, table, parts.table())
         self.rules = self.rules_in_order()
 
     def find(self, crate, name):

@@ -83,14 +83,12 @@ OPERATIONS = {
 class Evaluator:
     """The definitions of a repository, each evaluated when it is first asked for.
 
-    `words` has the words of std by their names, `natives` what stands in place of a definition, by
-    crate and name, and `witnesses` what stands in for a definition only where its text asks for a
-    witness."""
+    `words` has the words of std by their names, and `natives` what stands in place of a definition,
+    by crate and name."""
 
-    def __init__(self, all_sources, words, natives, witnesses):
-        self.sources, self.words, self.natives, self.witnesses = all_sources, words, natives, witnesses
+    def __init__(self, all_sources, words, natives):
+        self.sources, self.words, self.natives = all_sources, words, natives
         self.known = {}
-        self.used = set()
 
     def find(self, crate, name):
         """The value of the definition that a crate has once under a name."""
@@ -105,25 +103,12 @@ class Evaluator:
     def make(self, definition):
         name = (definition.file.module.split(".")[1], definition.name)
         if name in self.natives:
-            self.used.add(name)
             return self.natives[name](self)
         if definition.kind == "data":
             return NotImplemented
         parameters = definition.parameters()
         made, arity = self.make_record(definition, parameters) if definition.kind == "record" else self.make_clauses(definition, parameters)
-        if name in self.witnesses:
-            made = self.with_witness(name, made)
         return Function(made, arity) if arity else made()
-
-    def with_witness(self, name, made):
-        def call(*given):
-            try:
-                return made(*given)
-            except NotEvaluated:
-                self.used.add(name)
-                return self.witnesses[name](self, *given)
-
-        return call
 
     def make_clauses(self, definition, parameters):
         clauses = syntax.clauses_of(definition)

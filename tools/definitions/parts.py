@@ -8,7 +8,6 @@ reading finds all that the relation holds of. The rows of the grammar are evalua
 """
 
 from evaluator import Function, Made
-from words import TooMany
 
 
 class NotSpelled(Exception):
@@ -205,30 +204,12 @@ def read_module(evaluator, data):
     return module
 
 
-def has_class(evaluator, lists, visible, expression, wanted):
-    """`HasClass`, whose text asks for the stacks between the operators: they are those that the
-    signatures lead to."""
-    signature, stack = evaluator.find("rule_spec", "signature"), []
-    for operator in expression:
-        try:
-            found = signature(lists, visible, operator)
-        except TooMany:
-            return False
-        if found.name == "None":
-            return False
-        takes, rest = found.parts[0]["takes"], len(stack) - len(found.parts[0]["takes"])
-        if rest < 0 or stack[rest:] != takes:
-            return False
-        stack = [*stack[:rest], found.parts[0]["pushes"]]
-    return stack == [wanted]
-
-
 def constant(value):
     return lambda evaluator: value
 
 
 # Laws whose proofs stand beside an answer, each with the count of what it takes: nothing reads them.
-PROOFS = {("type_spec", "down-decided"): 5, ("type_spec", "function-decides"): 2, ("wasm_types", "heap-is"): 1}
+PROOFS = {("type_spec", "down-decided"): 5, ("type_spec", "function-decides"): 2, ("rule_spec", "classes-decide"): 2, ("wasm_types", "heap-is"): 1}
 
 
 def table():
@@ -256,6 +237,3 @@ def table():
         made[law] = constant(Function(lambda *given: True, arity))
     return made
 
-
-# What stands in where the text of a definition asks for a witness.
-WITNESSES = {("rule_spec", "HasClass"): has_class}

@@ -1,6 +1,7 @@
 """The words of std that definitions use, as functions of Python; what each is, std says under the
 same name."""
 
+import collections.abc
 import functools
 
 from evaluator import NONE, Function, NotEvaluated, some
@@ -9,8 +10,17 @@ from evaluator import NONE, Function, NotEvaluated, some
 MOST_COPIES = 1 << 20
 
 
-class TooMany(NotEvaluated):
-    """A list of more equal values is asked for than anything here can hold."""
+class Copies(collections.abc.Sequence):
+    """A list of more equal values than anything here can hold; its length alone is known."""
+
+    def __init__(self, count):
+        self.count = count
+
+    def __len__(self):
+        return self.count
+
+    def __getitem__(self, place):
+        raise NotEvaluated(f"one of {self.count} copies")
 
 
 def is_utf8(text):
@@ -22,9 +32,7 @@ def is_utf8(text):
 
 
 def replicate(count, value):
-    if count > MOST_COPIES:
-        raise TooMany(f"{count} copies")
-    return [value] * count
+    return [value] * count if count <= MOST_COPIES else Copies(count)
 
 
 def position(test, values):

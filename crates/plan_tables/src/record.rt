@@ -174,8 +174,9 @@ pub struct LocalNameRow<'d> {
 pub struct DebugRecord<'d> {
     /// How many functions are imported: `imported_func_count`.
     pub imports: u32,
-    /// The names of locals from the custom section `name`, by functions and then by locals. This
-    /// list and the next two are empty without `native_debug`: `local_names`.
+    /// The names of locals from the custom section `name`, by functions and then by locals, as far as
+    /// the function is declared before that section; `bobbinazure_names` gives all. This list and the
+    /// next two are empty without `native_debug`: `local_names`.
     pub names: &'d [LocalNameRow<'d>],
     /// The locals of each defined function, a part of the next list. Its parameters are those of
     /// its type, which `functions` names: `function_metadata`.
@@ -266,10 +267,9 @@ pub struct PlacesRecord<'d> {
     pub segments: ExpressionsRecord<'d>,
     /// The offset of each of `elements`, as an expression: `element_places`.
     pub elements: ExpressionsRecord<'d>,
-    /// The first value of the cells of each defined table; it has no operators where they begin as
-    /// null, or as `table_images` says. With `lazy_tables` an initialiser that became an image, of a
-    /// table without cells too, is in no list: plan without that option to see what was written:
-    /// `table_values`.
+    /// The initialiser of each defined table. It has no operators where the table declares none, or
+    /// where `lazy_tables` made it an image, even of no cells; plan without that option to
+    /// see it: `table_values`.
     pub tables: ExpressionsRecord<'d>,
 }
 
@@ -292,7 +292,7 @@ pub struct PlanRecord<'d> {
     /// Of an invalid module the rule that it breaks, from 1 to 10; of an unsupported one what is
     /// not supported, from `BOBBINAZURE_COMPONENT` on.
     pub refusal_detail: u32,
-    /// The line of the refusal, as the program prints it. It is never freed.
+    /// The line of the refusal, as the program prints it, with its line feed. It is never freed.
     pub refusal_line: &'static [u8],
     /// How many entities there are.
     pub entities: Entities,

@@ -36,9 +36,9 @@ pub struct Entities {
 #[derive(Clone, Copy)]
 pub struct Facts {
     /// When the startup function runs, from `BOBBINAZURE_STARTUP_NONE` on: never, always, or where
-    /// a memory does not begin as its image.
+    /// a memory does not begin as its image. The engine makes that function.
     pub startup: u32,
-    /// The interned type of the startup function; 0 where none runs.
+    /// The interned type of the startup function. Read it only where one may run: 0 is a type too.
     pub startup_type: u32,
     /// Whether memories begin as images. There may be no image all the same.
     pub images_made: u32,
@@ -48,8 +48,8 @@ pub struct Facts {
     pub data_align: u64,
     /// The index of the start function; `u32::MAX` where there is none.
     pub start: u32,
-    /// Whether a defined table can hold references that are collected. Where it is 0, imported tables,
-    /// globals and code may still need a heap.
+    /// Whether a defined table has elements other than references to functions and continuations; those
+    /// to i31 count. Where it is 0, imported tables, globals and code may still need a heap.
     pub needs_gc_heap: u32,
     /// How many functions escape, so that the context has a reference to each: `escaped_functions`.
     pub escaped: u64,
@@ -160,7 +160,7 @@ pub struct MemoryRow {
     pub shared: u8,
     /// Whether addresses have 64 bits.
     pub wide: u8,
-    /// Whether a greatest size is declared.
+    /// Whether a greatest size is declared, which may be `u64::MAX` too.
     pub bounded: u8,
 }
 
@@ -176,7 +176,7 @@ pub struct TableRow {
     pub element: ValueRow,
     /// Whether indices have 64 bits.
     pub wide: u32,
-    /// Whether a greatest size is declared.
+    /// Whether a greatest size is declared, which may be `u64::MAX` too.
     pub bounded: u32,
 }
 

@@ -9,7 +9,7 @@ pub struct ImportAnswerRecord {
     /// Where it is given, the number of the export, from 0 on; of a mismatch the rule that it
     /// breaks, from `BOBBINAZURE_MISMATCH_KIND` on; else 0.
     pub detail: u32,
-    /// The text of a mismatch, else empty. It is never freed.
+    /// The text of a mismatch, without a line feed; else empty. It is never freed.
     pub line: &'static [u8],
 }
 
@@ -22,7 +22,7 @@ pub struct LinkRecord<'d> {
     /// Why that module is refused: this field and the next two are those of a plan.
     pub refusal: u32,
     pub refusal_detail: u32,
-    /// The line of the refusal, as the program prints it. It is never freed.
+    /// The line of the refusal, as the program prints it, with its line feed. It is never freed.
     pub refusal_line: &'static [u8],
     /// The answer to each import of the second module, in order.
     pub answers: &'d [ImportAnswerRecord],

@@ -12,8 +12,8 @@ use wasm_types::Tunables;
 #[repr(C)]
 #[derive(Clone, Copy)]
 pub struct PlanOptions {
-    /// Whether memories begin as images, where the data segments allow it.
-    /// A module can then require `max_image` bytes with each memory that it defines, in some
+    /// Whether memories begin as images. One active data segment that does not allow it prevents all
+    /// images. A module can otherwise require `max_image` bytes with each memory that it defines, in some
     /// fifteen bytes of its own.
     pub cow: u8,
     /// Whether tables begin as images, as far as their elements allow it.
@@ -32,8 +32,8 @@ pub struct PlanOptions {
     pub collector: u8,
     /// The page size of images, in bytes: a power of two.
     pub page_size: u64,
-    /// Data of this extent or more, in bytes, become an image only where they fill more than half of
-    /// it.
+    /// Data of a memory with this extent or more, in bytes, must fill more than half of it; else no
+    /// memory begins as an image.
     pub max_image: u64,
 }
 

@@ -24,7 +24,7 @@ pub struct ProgramAnswerRecord {
     pub module: usize,
     /// Where it is given, the number of the export in that module, from 0 on; else 0.
     pub export_number: usize,
-    /// The text of a mismatch, else empty. It is never freed.
+    /// The text of a mismatch, without a line feed; else empty. It is never freed.
     pub line: &'static [u8],
 }
 
@@ -50,7 +50,8 @@ pub struct ProgramRecord<'d> {
     /// plan.
     pub refusal: u32,
     pub refusal_detail: u32,
-    /// The line of the refusal, as the program prints it. It is never freed.
+    /// Where the cause is a module, the line of its refusal, with its line feed; else empty. It is
+    /// never freed.
     pub refusal_line: &'static [u8],
     /// The number of the module at which the program is refused, from 0 on; 0 where it is linked.
     pub refused: usize,

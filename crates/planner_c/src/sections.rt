@@ -16,14 +16,15 @@ pub struct SectionRow<'d> {
     pub id: u32,
     /// The offset of the section, which begins with its id.
     pub start: u32,
-    /// The offset of its contents. Those of a custom section begin with its name; what follows goes from
-    /// the end of `name` up to `contents + size`.
+    /// The offset of its contents. Where `has_name` is 1 they begin with the name; the rest goes from
+    /// the end of the name up to `contents + size`.
     pub contents: u32,
     /// The length of its contents, in bytes.
     pub size: u32,
     /// Whether it is a custom section that begins with a name.
     pub has_name: u32,
-    /// The name, in the bytes of the module; else empty. It is never freed.
+    /// The name, in the bytes of the module. Without a name it is empty, and not in those bytes. It is
+    /// never freed.
     pub name: &'d [u8],
 }
 

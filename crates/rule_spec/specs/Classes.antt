@@ -39,6 +39,9 @@ class-decides a b = (
   (λ same. eq-eqb (class_number a) (class_number b) (ap class_number same)),
 )
 
+classes-decide : (cs ds : List Class) → Decides (pointwise same_class cs ds) (cs ≡ ds)
+classes-decide cs ds = slice_eq-Decides class-decides cs ds _ refl
+
 -- whether two lists of classes are equal: what it says determines the answer
 pub decide_classes : (cs ds : List Class) → (equal : Bool) × Decides equal (cs ≡ ds)
-decide_classes cs ds = (pointwise same_class cs ds, slice_eq-Decides class-decides cs ds _ refl)
+decide_classes cs ds = (pointwise same_class cs ds, classes-decide cs ds)

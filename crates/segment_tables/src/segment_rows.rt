@@ -33,7 +33,8 @@ pub struct ElementSegmentRow {
     /// module is named by the type section: `list` is `BOBBINAZURE_OF_SECTION`, and `heap` is
     /// `BOBBINAZURE_HEAP_DECLARED`.
     pub element: ValueRow,
-    /// Whether its items are written as constant expressions; else as function indices.
+    /// Whether its items are written as constant expressions; else as function indices, and then none
+    /// is null: the segment fits a table of `(ref func)` too.
     pub expressed: u32,
     /// The items that are functions, a part of `functions`.
     pub functions: Span,
@@ -41,7 +42,7 @@ pub struct ElementSegmentRow {
     pub expressions: Span,
 }
 
-/// The segments of a module, and the functions that its bodies name: `bobbinazure_segment_list`.
+/// The segments of a module, and what `ref.func` in its bodies may name: `bobbinazure_segment_list`.
 #[repr(C)]
 #[derive(Clone, Copy)]
 pub struct SegmentsRecord<'d> {

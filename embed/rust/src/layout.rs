@@ -400,7 +400,7 @@ laid_out! {
         global_expressions 632,
         segment_places 664,
         element_places 696,
-        tables 728,
+        table_values 728,
         imports 760,
         import_names 776,
         exports 792,

@@ -155,8 +155,6 @@ pub const ACTIVE_SEGMENT: u32 = 1;
 /// an element segment alone
 pub const DECLARATIVE_SEGMENT: u32 = 2;
 
-// When the startup function must run.
-
 /// startup none
 pub const STARTUP_NONE: u32 = 0;
 /// startup always

@@ -35,14 +35,15 @@ pub(crate) struct PlanRecord {
     /// Of an invalid module the rule that it breaks, from 1 to 10; of an unsupported one what is
     /// not supported, from [`numbers::COMPONENT`](crate::numbers::COMPONENT) on.
     pub(crate) refusal_detail: u32,
-    /// The line of the refusal, as the program prints it. It is never freed.
+    /// The line of the refusal, as the program prints it, with its line feed. It is never freed.
     pub(crate) refusal_line: List<u8>,
     /// How many entities there are.
     pub(crate) entities: Entities,
     /// When the startup function runs, from [`numbers::STARTUP_NONE`](crate::numbers::STARTUP_NONE)
-    /// on: never, always, or where a memory does not begin as its image.
+    /// on: never, always, or where a memory does not begin as its image. The engine makes that
+    /// function.
     pub(crate) startup: u32,
-    /// The interned type of the startup function; 0 where none runs.
+    /// The interned type of the startup function. Read it only where one may run: 0 is a type too.
     pub(crate) startup_type: u32,
     /// Whether memories begin as images. There may be no image all the same.
     pub(crate) images_made: u32,
@@ -52,8 +53,8 @@ pub(crate) struct PlanRecord {
     pub(crate) data_align: u64,
     /// The index of the start function; `u32::MAX` where there is none.
     pub(crate) start: u32,
-    /// Whether a defined table can hold references that are collected. Where it is 0, imported
-    /// tables, globals and code may still need a heap.
+    /// Whether a defined table has elements other than references to functions and continuations;
+    /// those to i31 count. Where it is 0, imported tables, globals and code may still need a heap.
     pub(crate) needs_gc_heap: u32,
     /// How many functions escape, so that the context has a reference to each.
     pub(crate) escaped_functions: u64,
@@ -127,11 +128,10 @@ pub(crate) struct PlanRecord {
     pub(crate) segment_places: ExpressionsRecord,
     /// The offset of each of `elements`, as an expression.
     pub(crate) element_places: ExpressionsRecord,
-    /// The first value of the cells of each defined table; it has no operators where they begin as
-    /// null, or as `table_images` says. With `lazy_tables` an initialiser that became an image, of
-    /// a table without cells too, is in no list: plan without that option to see what was written:
-    /// `table_values`.
-    pub(crate) tables: ExpressionsRecord,
+    /// The initialiser of each defined table. It has no operators where the table declares none, or
+    /// where `lazy_tables` made it an image, even of no cells; plan without that option to
+    /// see it.
+    pub(crate) table_values: ExpressionsRecord,
     /// The imports, in order.
     pub(crate) imports: List<Import>,
     /// The names of imports, end to end, in UTF-8.
@@ -166,8 +166,9 @@ pub(crate) struct PlanRecord {
     pub(crate) locals: List<Locals>,
     /// How many functions are imported.
     pub(crate) imported_func_count: u32,
-    /// The names of locals from the custom section `name`, by functions and then by locals. This
-    /// list and the next two are empty without `native_debug`.
+    /// The names of locals from the custom section `name`, by functions and then by locals, as far
+    /// as the function is declared before that section; `bobbinazure_names` gives all. This list
+    /// and the next two are empty without `native_debug`.
     pub(crate) local_names: List<LocalName>,
     /// The locals of each defined function, a part of the next list. Its parameters are those of
     /// its type, which `functions` names.
@@ -215,8 +216,8 @@ impl PlanRecord {
             self.segment_places.operators.free();
             self.element_places.parts.free();
             self.element_places.operators.free();
-            self.tables.parts.free();
-            self.tables.operators.free();
+            self.table_values.parts.free();
+            self.table_values.operators.free();
             self.imports.free();
             self.import_names.free();
             self.exports.free();
@@ -245,7 +246,7 @@ impl PlanRecord {
     }
 }
 
-/// The segments of a module, and the functions that its bodies name.
+/// The segments of a module, and what `ref.func` in its bodies may name.
 #[repr(C)]
 #[derive(Default)]
 pub(crate) struct SegmentsRecord {
@@ -283,7 +284,7 @@ pub(crate) struct ImportAnswer {
     /// Where it is given, the number of the export, from 0 on; of a mismatch the rule that it
     /// breaks, from [`numbers::MISMATCH_KIND`](crate::numbers::MISMATCH_KIND) on; else 0.
     pub(crate) detail: u32,
-    /// The text of a mismatch, else empty. It is never freed.
+    /// The text of a mismatch, without a line feed; else empty. It is never freed.
     pub(crate) line: List<u8>,
 }
 
@@ -296,7 +297,7 @@ pub(crate) struct LinkRecord {
     /// Why that module is refused: this field and the next two are those of a plan.
     pub(crate) refusal: u32,
     pub(crate) refusal_detail: u32,
-    /// The line of the refusal, as the program prints it. It is never freed.
+    /// The line of the refusal, as the program prints it, with its line feed. It is never freed.
     pub(crate) refusal_line: List<u8>,
     /// The answer to each import of the second module, in order.
     pub(crate) answers: List<ImportAnswer>,
@@ -326,7 +327,7 @@ pub(crate) struct ProgramAnswer {
     pub(crate) module: usize,
     /// Where it is given, the number of the export in that module, from 0 on; else 0.
     pub(crate) export_number: usize,
-    /// The text of a mismatch, else empty. It is never freed.
+    /// The text of a mismatch, without a line feed; else empty. It is never freed.
     pub(crate) line: List<u8>,
 }
 
@@ -353,7 +354,8 @@ pub(crate) struct ProgramRecord {
     /// plan.
     pub(crate) refusal: u32,
     pub(crate) refusal_detail: u32,
-    /// The line of the refusal, as the program prints it. It is never freed.
+    /// Where the cause is a module, the line of its refusal, with its line feed; else empty. It is
+    /// never freed.
     pub(crate) refusal_line: List<u8>,
     /// The number of the module at which the program is refused, from 0 on; 0 where it is linked.
     pub(crate) refused: usize,

@@ -6,9 +6,9 @@ use crate::list::List;
 #[repr(C)]
 #[derive(Clone, Copy, Debug, PartialEq, Eq, Hash)]
 pub struct Options {
-    /// Whether memories begin as images, where the data segments allow it.
-    /// A module can then require `max_image` bytes with each memory that it defines, in some
-    /// fifteen bytes of its own.
+    /// Whether memories begin as images. One active data segment that does not allow it prevents
+    /// all images. A module can otherwise require `max_image` bytes with each memory that it
+    /// defines, in some fifteen bytes of its own.
     pub cow: bool,
     /// Whether tables begin as images, as far as their elements allow it.
     /// A module can then require 1,048,576 cells of four bytes with each table that it defines, in
@@ -26,8 +26,8 @@ pub struct Options {
     pub collector: u8,
     /// The page size of images, in bytes: a power of two.
     pub page_size: u64,
-    /// Data of this extent or more, in bytes, become an image only where they fill more than half
-    /// of it.
+    /// Data of a memory with this extent or more, in bytes, must fill more than half of it; else no
+    /// memory begins as an image.
     pub max_image: u64,
 }
 
@@ -154,7 +154,7 @@ pub struct Memory {
     pub shared: bool,
     /// Whether addresses have 64 bits.
     pub wide: bool,
-    /// Whether a greatest size is declared.
+    /// Whether a greatest size is declared, which may be `u64::MAX` too.
     pub bounded: bool,
 }
 
@@ -170,7 +170,7 @@ pub struct Table {
     pub element: Value,
     /// Whether indices have 64 bits.
     pub wide: u32,
-    /// Whether a greatest size is declared.
+    /// Whether a greatest size is declared, which may be `u64::MAX` too.
     pub bounded: u32,
 }
 
@@ -835,7 +835,8 @@ pub struct ElementSegment {
     /// [`numbers::OF_SECTION`](crate::numbers::OF_SECTION), and `heap` is
     /// [`numbers::HEAP_DECLARED`](crate::numbers::HEAP_DECLARED).
     pub element: Value,
-    /// Whether its items are written as constant expressions; else as function indices.
+    /// Whether its items are written as constant expressions; else as function indices, and then
+    /// none is null: the segment fits a table of `(ref func)` too.
     pub expressed: u32,
     /// The items that are functions, a part of `functions`.
     pub functions: Span,
@@ -939,13 +940,14 @@ pub struct Section {
     pub id: u32,
     /// The offset of the section, which begins with its id.
     pub start: u32,
-    /// The offset of its contents. Those of a custom section begin with its name; what follows goes
-    /// from the end of `name` up to `contents + size`.
+    /// The offset of its contents. Where `has_name` is 1 they begin with the name; the rest goes
+    /// from the end of the name up to `contents + size`.
     pub contents: u32,
     /// The length of its contents, in bytes.
     pub size: u32,
     /// Whether it is a custom section that begins with a name.
     pub has_name: u32,
-    /// The name, in the bytes of the module; else empty. It is never freed.
+    /// The name, in the bytes of the module. Without a name it is empty, and not in those bytes. It
+    /// is never freed.
     pub(crate) name: List<u8>,
 }

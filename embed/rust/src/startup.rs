@@ -230,9 +230,9 @@ impl Plan<'_> {
         self.record.table_images.as_slice().iter().map(move |span| part(cells, *span))
     }
 
-    /// The first value of the cells of each defined table; `None` where they begin as null, or as
-    /// [`table_images`](Self::table_images) says. With `lazy_tables` an initialiser that became an image
-    /// is in no list: plan without that option to see what was written.
+    /// The initialiser of each defined table; `None` where the table declares none, or where
+    /// `lazy_tables` made it an image ([`table_images`](Self::table_images)), even of no cells: plan
+    /// without that option to see it.
     ///
     /// ```
     /// # let bytes = std::fs::read(concat!(env!("CARGO_MANIFEST_DIR"), "/../../examples/linked.wasm"))?;
