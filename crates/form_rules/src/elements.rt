@@ -1,18 +1,17 @@
 //! What the rules require of element segments. One walk checks all rules, since each walk reads a
 //! segment again that stays in the input.
 
-ghost use Rattle.std.specs.Prelude.{◌≡◌, ◌↔◌, IsTrue, IfOk};
+ghost use Rattle.std.specs.Prelude.{◌↔◌, IsTrue, IfOk};
 ghost use Rattle.form_data.specs.Views.{element_of};
 ghost use Rattle.form_lists.specs.Views.{lists_of};
-ghost use Rattle.form_typing.specs.Defaults.{defaults as defaults_of_types};
 ghost use Rattle.form_rules.specs.Walked.{AreElementsWalked, IsElementAdded};
 
 use crate::indices::{element_is_in_range, names_functions};
 use crate::plain::is_plain_element;
 use crate::references::element_refers;
 use form_data::Element;
-use form_lists::{Lists, walk_of};
-use form_typing::element_is_typed;
+use form_lists::walk_of;
+use form_typing::{Typing, element_is_typed};
 use rule_spec::Class;
 use std::alloc::{AllocError, Global};
 
@@ -27,14 +26,9 @@ pub struct ElementsKeep {
     pub refer: bool,
 }
 
-/// Walks through the element segments. `defaults` are the types' `struct_defaults`.
-pub fn walk_elements(
-    alloc: Global,
-    lists: &Lists<'_, '_>,
-    defaults: &[bool],
-) -> Result<ElementsKeep, AllocError>
-    requires { defaults.now ≡ defaults_of_types (lists_of lists.now) }
-    ensures { IfOk result (λ kept. AreElementsWalked (lists_of lists.now) kept) }
+/// Walks through the element segments.
+pub fn walk_elements(alloc: Global, typing: &Typing<'_, '_, '_>) -> Result<ElementsKeep, AllocError>
+    ensures { IfOk result (λ kept. AreElementsWalked (lists_of typing.now.lists.now) kept) }
 {
     let mut stack = Vec::new(alloc);
     let mut kept = ElementsKeep {
@@ -42,24 +36,23 @@ pub fn walk_elements(
         in_range: true,
         refer: true,
     };
-    let mut elements = walk_of::<Element>(alloc, lists.source);
+    let mut elements = walk_of::<Element>(alloc, typing.lists.source);
     while elements.advance()? {
-        kept = with_element(lists, defaults, kept, elements.entry(), &mut stack)?;
+        kept = with_element(typing, kept, elements.entry(), &mut stack)?;
     }
     Ok(kept)
 }
 
 /// The same with one segment more.
 fn with_element(
-    lists: &Lists<'_, '_>,
-    defaults: &[bool],
+    typing: &Typing<'_, '_, '_>,
     before: ElementsKeep,
     element: &Element,
     stack: &mut Vec<Class>,
 ) -> Result<ElementsKeep, AllocError>
-    requires { defaults.now ≡ defaults_of_types (lists_of lists.now) }
-    ensures { IfOk result (λ kept. IsElementAdded (lists_of lists.now) before (element_of element.now) kept) }
+    ensures { IfOk result (λ kept. IsElementAdded (lists_of typing.now.lists.now) before (element_of element.now) kept) }
 {
+    let lists = typing.lists;
     if is_plain_element(lists, element) {
         return Ok(ElementsKeep {
             typed: before.typed,
@@ -67,7 +60,7 @@ fn with_element(
             refer: before.refer,
         });
     }
-    let typed = element_is_typed(lists, defaults, element, stack)?;
+    let typed = element_is_typed(typing, element, stack)?;
     Ok(ElementsKeep {
         typed: before.typed && typed,
         in_range: before.in_range && element_is_in_range(lists, element),

@@ -1,17 +1,16 @@
 //! What the rules require of globals. One walk checks all rules, since each walk reads a global
 //! again that stays in the input.
 
-ghost use Rattle.std.specs.Prelude.{◌≡◌, ◌↔◌, ◌≤◌, length, IsTrue, IfOk};
+ghost use Rattle.std.specs.Prelude.{◌↔◌, ◌≤◌, length, IsTrue, IfOk};
 ghost use Rattle.form_data.specs.Views.{global_of};
 ghost use Rattle.form_lists.specs.Views.{lists_of};
-ghost use Rattle.form_typing.specs.Defaults.{defaults as defaults_of_types};
 ghost use Rattle.form_rules.specs.Outcomes.{HasGlobals};
 ghost use Rattle.form_rules.specs.Walked.{AreGlobalsWalked, IsGlobalAdded};
 
 use crate::references::global_refers;
 use form_data::GlobalDef;
-use form_lists::{Lists, walk_of};
-use form_typing::global_is_typed;
+use form_lists::walk_of;
+use form_typing::{Typing, global_is_typed};
 use rule_spec::Class;
 use std::alloc::{AllocError, Global};
 
@@ -24,25 +23,20 @@ pub struct GlobalsKeep {
     pub refer: bool,
 }
 
-/// Walks through the globals that the module defines. `defaults` are the types' `struct_defaults`.
-pub fn walk_globals(
-    alloc: Global,
-    lists: &Lists<'_, '_>,
-    defaults: &[bool],
-) -> Result<GlobalsKeep, AllocError>
-    requires counted { HasGlobals (lists_of lists.now) }
-    requires noted { defaults.now ≡ defaults_of_types (lists_of lists.now) }
-    ensures { IfOk result (λ kept. AreGlobalsWalked (lists_of lists.now) kept) }
+/// Walks through the globals that the module defines.
+pub fn walk_globals(alloc: Global, typing: &Typing<'_, '_, '_>) -> Result<GlobalsKeep, AllocError>
+    requires counted { HasGlobals (lists_of typing.now.lists.now) }
+    ensures { IfOk result (λ kept. AreGlobalsWalked (lists_of typing.now.lists.now) kept) }
 {
     let mut stack = Vec::new(alloc);
     let mut kept = GlobalsKeep {
         typed: true,
         refer: true,
     };
-    let mut index = lists.imported_globals;
-    let mut globals = walk_of::<GlobalDef>(alloc, lists.source);
+    let mut index = typing.lists.imported_globals;
+    let mut globals = walk_of::<GlobalDef>(alloc, typing.lists.source);
     while globals.advance()? {
-        kept = with_global(lists, defaults, index, kept, globals.entry(), &mut stack)?;
+        kept = with_global(typing, index, kept, globals.entry(), &mut stack)?;
         index += 1;
     }
     Ok(kept)
@@ -50,18 +44,17 @@ pub fn walk_globals(
 
 /// The same with one global more, which has this index.
 fn with_global(
-    lists: &Lists<'_, '_>,
-    defaults: &[bool],
+    typing: &Typing<'_, '_, '_>,
     index: usize,
     before: GlobalsKeep,
     global: &GlobalDef,
     stack: &mut Vec<Class>,
 ) -> Result<GlobalsKeep, AllocError>
-    requires counted { index ≤ length lists.now.spaces.global_types.items }
-    requires noted { defaults.now ≡ defaults_of_types (lists_of lists.now) }
-    ensures { IfOk result (λ kept. IsGlobalAdded (lists_of lists.now) index before (global_of global.now) kept) }
+    requires counted { index ≤ length typing.now.lists.now.spaces.global_types.items }
+    ensures { IfOk result (λ kept. IsGlobalAdded (lists_of typing.now.lists.now) index before (global_of global.now) kept) }
 {
-    let typed = global_is_typed(lists, defaults, index, global, stack)?;
+    let lists = typing.lists;
+    let typed = global_is_typed(typing, index, global, stack)?;
     Ok(GlobalsKeep {
         typed: before.typed && typed,
         refer: before.refer && global_refers(lists.types.count() as usize, global),

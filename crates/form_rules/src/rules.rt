@@ -8,7 +8,6 @@ ghost use Rattle.rule_spec.specs.Rules.{Satisfies, Keeps, KeepsBefore};
 ghost use Rattle.form_types.specs.Numbered.{AreNumbered};
 ghost use Rattle.form_lists.specs.Source.{source_module};
 ghost use Rattle.form_lists.specs.Views.{lists_of};
-ghost use Rattle.form_typing.specs.Defaults.{defaults as defaults_of_types};
 ghost use Rattle.form_rules.specs.Walked.{AreAsked};
 ghost use Rattle.form_rules.specs.Names.{exported_names};
 ghost use Rattle.form_rules.specs.Outcomes.{ChecksOrNoMemory, HasGlobals};
@@ -29,7 +28,7 @@ use entity_map::StringPool;
 use form_data::Form;
 use form_lists::{DeclaredTypes, Lists, Source, gather_lists};
 use form_types::{Types, Validator, numbering_of_form};
-use form_typing::{expressions_hold, struct_defaults};
+use form_typing::{KindsTyped, Typing, expressions_hold, struct_defaults};
 use rule_spec::Rule;
 use std::alloc::{AllocError, Global};
 
@@ -103,14 +102,18 @@ pub fn checked_lists<'f, 'd>(
     let lists = gather_lists(alloc, source, DeclaredTypes::new(types, source))?;
     let defaults = struct_defaults(alloc, &lists)?;
     let names = pool_of_exports(alloc, source)?;
+    let typing = Typing {
+        lists: &lists,
+        defaults: &defaults,
+    };
     let asked = Asked {
-        globals: walk_globals(alloc, &lists, &defaults)?,
-        elements: walk_elements(alloc, &lists, &defaults)?,
-        segments: walk_segments(alloc, &lists, &defaults)?,
+        globals: walk_globals(alloc, &typing)?,
+        elements: walk_elements(alloc, &typing)?,
+        segments: walk_segments(alloc, &typing)?,
         distinct: names.is_some(),
     };
     for rule in RULES {
-        if !keeps(alloc, rule, &lists, &defaults, asked)? {
+        if !keeps(alloc, rule, &typing, asked)? {
             return Err(CheckError::Invalid(rule));
         }
     }
@@ -125,15 +128,13 @@ pub fn checked_lists<'f, 'd>(
 fn keeps(
     alloc: Global,
     rule: Rule,
-    lists: &Lists<'_, '_>,
-    defaults: &[bool],
+    typing: &Typing<'_, '_, '_>,
     asked: Asked,
 ) -> Result<bool, AllocError>
-    requires well { Satisfies Rule.L1 (lists_of lists.now) }
-    requires counted { HasGlobals (lists_of lists.now) }
-    requires noted { defaults.now ≡ defaults_of_types (lists_of lists.now) }
-    requires asked { AreAsked (lists_of lists.now) asked }
-    ensures { IfOk result (λ kept. IsTrue kept ↔ Satisfies rule (lists_of lists.now)) }
+    requires well { Satisfies Rule.L1 (lists_of typing.now.lists.now) }
+    requires counted { HasGlobals (lists_of typing.now.lists.now) }
+    requires asked { AreAsked (lists_of typing.now.lists.now) asked }
+    ensures { IfOk result (λ kept. IsTrue kept ↔ Satisfies rule (lists_of typing.now.lists.now)) }
 {
     let Asked {
         globals,
@@ -141,6 +142,7 @@ fn keeps(
         segments,
         distinct,
     } = asked;
+    let lists = typing.lists;
     match rule {
         Rule::L1 => Ok(true),
         Rule::L2 => types_are_named(alloc, lists),
@@ -149,11 +151,12 @@ fn keeps(
         Rule::L5 => Ok(initialisers_hold(lists)),
         Rule::L6 => expressions_hold(
             alloc,
-            lists,
-            defaults,
-            globals.typed,
-            elements.typed,
-            segments.typed,
+            typing,
+            KindsTyped {
+                globals: globals.typed,
+                elements: elements.typed,
+                segments: segments.typed,
+            },
         ),
         Rule::L7 => Ok(exports_hold(lists, distinct)),
         Rule::L8 => Ok(starts_hold(lists)),

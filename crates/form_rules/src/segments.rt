@@ -3,15 +3,14 @@
 ghost use Rattle.std.specs.Prelude.{◌≡◌, ◌↔◌, ◌+◌, IsTrue, IfOk};
 ghost use Rattle.form_data.specs.Views.{segment_of};
 ghost use Rattle.form_lists.specs.Views.{lists_of};
-ghost use Rattle.form_typing.specs.Defaults.{defaults as defaults_of_types};
 ghost use Rattle.form_rules.specs.Walked.{AreSegmentsWalked, IsSegmentAdded};
 
 use crate::indices::names_memory;
 use crate::plain::is_plain_segment;
 use crate::references::data_kind_refers;
 use form_data::DataSegment;
-use form_lists::{Lists, walk_of};
-use form_typing::segment_is_typed;
+use form_lists::walk_of;
+use form_typing::{Typing, segment_is_typed};
 use rule_spec::Class;
 use std::alloc::{AllocError, Global};
 
@@ -27,14 +26,12 @@ pub struct SegmentsKeep {
     pub refer: bool,
 }
 
-/// Walks through the data segments. `defaults` are the types' `struct_defaults`.
+/// Walks through the data segments.
 pub fn walk_segments<'d>(
     alloc: Global,
-    lists: &Lists<'_, 'd>,
-    defaults: &[bool],
+    typing: &Typing<'_, '_, 'd>,
 ) -> Result<SegmentsKeep, AllocError>
-    requires { defaults.now ≡ defaults_of_types (lists_of lists.now) }
-    ensures { IfOk result (λ kept. AreSegmentsWalked (lists_of lists.now) kept) }
+    ensures { IfOk result (λ kept. AreSegmentsWalked (lists_of typing.now.lists.now) kept) }
 {
     let mut stack = Vec::new(alloc);
     let mut kept = SegmentsKeep {
@@ -43,9 +40,9 @@ pub fn walk_segments<'d>(
         in_range: true,
         refer: true,
     };
-    let mut segments = walk_of::<DataSegment<'d>>(alloc, lists.source);
+    let mut segments = walk_of::<DataSegment<'d>>(alloc, typing.lists.source);
     while segments.advance()? {
-        kept = with_segment(lists, defaults, kept, segments.entry(), &mut stack)?;
+        kept = with_segment(typing, kept, segments.entry(), &mut stack)?;
     }
     Ok(kept)
 }
@@ -59,20 +56,19 @@ fn one_more(count: usize) -> Result<usize, AllocError>
 
 /// The same with one segment more.
 fn with_segment(
-    lists: &Lists<'_, '_>,
-    defaults: &[bool],
+    typing: &Typing<'_, '_, '_>,
     before: SegmentsKeep,
     segment: &DataSegment<'_>,
     stack: &mut Vec<Class>,
 ) -> Result<SegmentsKeep, AllocError>
-    requires { defaults.now ≡ defaults_of_types (lists_of lists.now) }
-    ensures { IfOk result (λ kept. IsSegmentAdded (lists_of lists.now) before (segment_of segment.now) kept) }
+    ensures { IfOk result (λ kept. IsSegmentAdded (lists_of typing.now.lists.now) before (segment_of segment.now) kept) }
 {
+    let lists = typing.lists;
     let count = one_more(before.count)?;
     if is_plain_segment(lists, &segment.kind) {
         return Ok(SegmentsKeep { count, ..before });
     }
-    let typed = segment_is_typed(lists, defaults, segment, stack)?;
+    let typed = segment_is_typed(typing, segment, stack)?;
     Ok(SegmentsKeep {
         count,
         typed: before.typed && typed,

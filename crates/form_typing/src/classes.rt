@@ -98,3 +98,13 @@ pub fn struct_defaults(alloc: Global, lists: &Lists<'_, '_>) -> Result<Vec<bool>
     }
     Ok(defaults)
 }
+
+/// What the typing of expressions asks: the lists of a module, and which of its types are struct
+/// types of which each field has a default.
+#[derive(Clone, Copy)]
+pub struct Typing<'l, 'f, 'd> {
+    pub lists: &'l Lists<'f, 'd>,
+    /// The `struct_defaults` of the lists.
+    pub defaults: &'l [bool],
+    pub ghost of_lists: { defaults.now ≡ defaults_of_types (lists_of lists.now) },
+}

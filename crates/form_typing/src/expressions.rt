@@ -9,10 +9,9 @@ ghost use Rattle.rule_spec.specs.Typing.{HasClass};
 ghost use Rattle.rule_spec.specs.Expressions.{address_class, HasTypedInitialiser, AreGlobalsTyped, HasTableOffset, HasTypedItems, IsElementTyped, HasMemoryOffset, AreExpressionsTyped};
 ghost use Rattle.form_lists.specs.Source.{source_module};
 ghost use Rattle.form_lists.specs.Views.{lists_of};
-ghost use Rattle.form_typing.specs.Defaults.{defaults as defaults_of_types};
 ghost use Rattle.form_typing.specs.Globals.{IsGlobalTyped};
 
-use crate::classes::class_of;
+use crate::classes::{Typing, class_of};
 use crate::typing::is_typed;
 use form_data::{
     ConstExpr, DataKind, DataSegment, Element, ElementItems, ElementKind, GlobalDef, TableDef,
@@ -22,34 +21,38 @@ use rule_spec::Class;
 use std::alloc::{AllocError, Global};
 use wasm_spec::GlobalType;
 
+/// For each kind of entry that is checked where it is iterated, whether all its expressions have the
+/// classes that their places require.
+#[derive(Clone, Copy)]
+pub struct KindsTyped {
+    /// By `global_is_typed` of each.
+    pub globals: bool,
+    /// By `element_is_typed` of each.
+    pub elements: bool,
+    /// By `segment_is_typed` of each.
+    pub segments: bool,
+}
+
 /// Whether each constant expression has the class that its place requires.
-///
-/// Globals and segments are checked where they are iterated: `globals_hold`, `elements_hold` and
-/// `segments_hold` are the results, by `global_is_typed`, `element_is_typed` and `segment_is_typed`
-/// of each.
 pub fn expressions_hold(
     alloc: Global,
-    lists: &Lists<'_, '_>,
-    defaults: &[bool],
-    globals_hold: bool,
-    elements_hold: bool,
-    segments_hold: bool,
+    typing: &Typing<'_, '_, '_>,
+    typed: KindsTyped,
 ) -> Result<bool, AllocError>
-    requires imported { lists.now.imported_globals ≤ length lists.now.spaces.global_types.items }
-    requires noted { defaults.now ≡ defaults_of_types (lists_of lists.now) }
-    requires globals { IsTrue globals_hold
-        ↔ AreGlobalsTyped (lists_of lists.now) lists.now.imported_globals (flat_map globals_of_section (source_module lists.now.source)) }
-    requires elements { IsTrue elements_hold
-        ↔ All (IsElementTyped (lists_of lists.now)) (flat_map elements_of_section (source_module lists.now.source)) }
-    requires segments { IsTrue segments_hold
-        ↔ All (λ s. HasMemoryOffset (lists_of lists.now) s.kind) (segments (source_module lists.now.source)) }
-    ensures { IfOk result (λ hold. IsTrue hold ↔ AreExpressionsTyped (lists_of lists.now)) }
+    requires imported { typing.now.lists.now.imported_globals ≤ length typing.now.lists.now.spaces.global_types.items }
+    requires globals { IsTrue typed.globals
+        ↔ AreGlobalsTyped (lists_of typing.now.lists.now) typing.now.lists.now.imported_globals (flat_map globals_of_section (source_module typing.now.lists.now.source)) }
+    requires elements { IsTrue typed.elements
+        ↔ All (IsElementTyped (lists_of typing.now.lists.now)) (flat_map elements_of_section (source_module typing.now.lists.now.source)) }
+    requires segments { IsTrue typed.segments
+        ↔ All (λ s. HasMemoryOffset (lists_of typing.now.lists.now) s.kind) (segments (source_module typing.now.lists.now.source)) }
+    ensures { IfOk result (λ hold. IsTrue hold ↔ AreExpressionsTyped (lists_of typing.now.lists.now)) }
 {
-    if !globals_hold || !elements_hold || !segments_hold {
+    if !typed.globals || !typed.elements || !typed.segments {
         return Ok(false);
     }
     let mut stack = Vec::new(alloc);
-    if !tables_hold(lists, defaults, &mut stack)? {
+    if !tables_hold(typing, &mut stack)? {
         return Ok(false);
     }
     Ok(true)
@@ -77,18 +80,13 @@ fn address_class(is_wide: bool) -> Class
 
 // ---- tables
 
-fn tables_hold(
-    lists: &Lists<'_, '_>,
-    defaults: &[bool],
-    stack: &mut Vec<Class>,
-) -> Result<bool, AllocError>
-    requires noted { defaults.now ≡ defaults_of_types (lists_of lists.now) }
-    requires imported { lists.now.imported_globals ≤ length lists.now.spaces.global_types.items }
+fn tables_hold(typing: &Typing<'_, '_, '_>, stack: &mut Vec<Class>) -> Result<bool, AllocError>
+    requires imported { typing.now.lists.now.imported_globals ≤ length typing.now.lists.now.spaces.global_types.items }
     ensures { IfOk result (λ hold. IsTrue hold
-        ↔ All (HasTypedInitialiser (lists_of lists.now)) (flat_map tables_of_section (source_module lists.now.source))) }
+        ↔ All (HasTypedInitialiser (lists_of typing.now.lists.now)) (flat_map tables_of_section (source_module typing.now.lists.now.source))) }
 {
-    for table in entries_of::<TableDef>(lists.source) {
-        if !table_holds(lists, defaults, table, stack)? {
+    for table in entries_of::<TableDef>(typing.lists.source) {
+        if !table_holds(typing, table, stack)? {
             return Ok(false);
         }
     }
@@ -97,19 +95,17 @@ fn tables_hold(
 
 /// The initialiser of a table sees the imported globals.
 pub fn table_holds(
-    lists: &Lists<'_, '_>,
-    defaults: &[bool],
+    typing: &Typing<'_, '_, '_>,
     table: &TableDef,
     stack: &mut Vec<Class>,
 ) -> Result<bool, AllocError>
-    requires noted { defaults.now ≡ defaults_of_types (lists_of lists.now) }
-    requires imported { lists.now.imported_globals ≤ length lists.now.spaces.global_types.items }
-    ensures { IfOk result (λ holds. IsTrue holds ↔ HasTypedInitialiser (lists_of lists.now) (table_of table.now)) }
+    requires imported { typing.now.lists.now.imported_globals ≤ length typing.now.lists.now.spaces.global_types.items }
+    ensures { IfOk result (λ holds. IsTrue holds ↔ HasTypedInitialiser (lists_of typing.now.lists.now) (table_of table.now)) }
 {
     match &table.init {
         Some(init) => {
-            let visible = globals_below(lists, lists.imported_globals);
-            is_typed(lists, defaults, visible, init, Class::Ref, stack)
+            let visible = globals_below(typing.lists, typing.lists.imported_globals);
+            is_typed(typing, visible, init, Class::Ref, stack)
         }
         None => Ok(true),
     }
@@ -120,45 +116,42 @@ pub fn table_holds(
 /// Whether the offset and the items of an element segment have the classes that their places
 /// require.
 ///
-/// `defaults` are the types' `struct_defaults`. What `stack` holds has no effect.
+/// What `stack` holds has no effect.
 pub fn element_is_typed(
-    lists: &Lists<'_, '_>,
-    defaults: &[bool],
+    typing: &Typing<'_, '_, '_>,
     element: &Element,
     stack: &mut Vec<Class>,
 ) -> Result<bool, AllocError>
-    requires noted { defaults.now ≡ defaults_of_types (lists_of lists.now) }
-    ensures { IfOk result (λ typed. IsTrue typed ↔ IsElementTyped (lists_of lists.now) (element_of element.now)) }
+    ensures { IfOk result (λ typed. IsTrue typed ↔ IsElementTyped (lists_of typing.now.lists.now) (element_of element.now)) }
 {
-    if !table_offset_holds(lists, defaults, &element.kind, stack)? {
+    if !table_offset_holds(typing, &element.kind, stack)? {
         return Ok(false);
     }
-    items_hold(lists, defaults, &element.items, stack)
+    items_hold(typing, &element.items, stack)
 }
 
 /// An offset has the class of the table's indices, where there is such a table.
 fn table_offset_holds(
-    lists: &Lists<'_, '_>,
-    defaults: &[bool],
+    typing: &Typing<'_, '_, '_>,
     kind: &ElementKind,
     stack: &mut Vec<Class>,
 ) -> Result<bool, AllocError>
-    requires noted { defaults.now ≡ defaults_of_types (lists_of lists.now) }
-    ensures { IfOk result (λ holds. IsTrue holds ↔ HasTableOffset (lists_of lists.now) (element_kind_of kind.now)) }
+    ensures { IfOk result (λ holds. IsTrue holds ↔ HasTableOffset (lists_of typing.now.lists.now) (element_kind_of kind.now)) }
 {
     match kind {
         ElementKind::Passive | ElementKind::Declared => Ok(true),
         ElementKind::Active {
             table_index,
             offset,
-        } => match lists
+        } => match typing
+            .lists
             .spaces
             .table_types
             .get(table_index.unwrap_or(0) as usize)
         {
             Some(table) => {
                 let class = address_class(table.table64);
-                is_typed(lists, defaults, all_globals(lists), offset, class, stack)
+                is_typed(typing, all_globals(typing.lists), offset, class, stack)
             }
             None => Ok(true),
         },
@@ -166,32 +159,28 @@ fn table_offset_holds(
 }
 
 fn items_hold(
-    lists: &Lists<'_, '_>,
-    defaults: &[bool],
+    typing: &Typing<'_, '_, '_>,
     items: &ElementItems,
     stack: &mut Vec<Class>,
 ) -> Result<bool, AllocError>
-    requires noted { defaults.now ≡ defaults_of_types (lists_of lists.now) }
-    ensures { IfOk result (λ hold. IsTrue hold ↔ HasTypedItems (lists_of lists.now) (items_of items.now)) }
+    ensures { IfOk result (λ hold. IsTrue hold ↔ HasTypedItems (lists_of typing.now.lists.now) (items_of items.now)) }
 {
     match items {
         ElementItems::Functions(_) => Ok(true),
-        ElementItems::Expressions(_, list) => all_items_hold(lists, defaults, list, stack),
+        ElementItems::Expressions(_, list) => all_items_hold(typing, list, stack),
     }
 }
 
 fn all_items_hold(
-    lists: &Lists<'_, '_>,
-    defaults: &[bool],
+    typing: &Typing<'_, '_, '_>,
     items: &[ConstExpr],
     stack: &mut Vec<Class>,
 ) -> Result<bool, AllocError>
-    requires noted { defaults.now ≡ defaults_of_types (lists_of lists.now) }
     ensures { IfOk result (λ hold. IsTrue hold
-        ↔ All (λ e. HasClass (lists_of lists.now) lists.now.spaces.global_types.items e class.Ref) (map expression_of items.now)) }
+        ↔ All (λ e. HasClass (lists_of typing.now.lists.now) typing.now.lists.now.spaces.global_types.items e class.Ref) (map expression_of items.now)) }
 {
     for item in items {
-        if !item_holds(lists, defaults, item, stack)? {
+        if !item_holds(typing, item, stack)? {
             return Ok(false);
         }
     }
@@ -199,54 +188,48 @@ fn all_items_hold(
 }
 
 fn item_holds(
-    lists: &Lists<'_, '_>,
-    defaults: &[bool],
+    typing: &Typing<'_, '_, '_>,
     item: &ConstExpr,
     stack: &mut Vec<Class>,
 ) -> Result<bool, AllocError>
-    requires noted { defaults.now ≡ defaults_of_types (lists_of lists.now) }
     ensures { IfOk result (λ holds. IsTrue holds
-        ↔ HasClass (lists_of lists.now) lists.now.spaces.global_types.items (expression_of item.now) class.Ref) }
+        ↔ HasClass (lists_of typing.now.lists.now) typing.now.lists.now.spaces.global_types.items (expression_of item.now) class.Ref) }
 {
-    is_typed(lists, defaults, all_globals(lists), item, Class::Ref, stack)
+    is_typed(typing, all_globals(typing.lists), item, Class::Ref, stack)
 }
 
 // ---- data segments
 
 /// Whether the offset of a data segment has the class that its place requires.
 ///
-/// `defaults` are the types' `struct_defaults`. What `stack` holds has no effect.
+/// What `stack` holds has no effect.
 pub fn segment_is_typed(
-    lists: &Lists<'_, '_>,
-    defaults: &[bool],
+    typing: &Typing<'_, '_, '_>,
     segment: &DataSegment<'_>,
     stack: &mut Vec<Class>,
 ) -> Result<bool, AllocError>
-    requires noted { defaults.now ≡ defaults_of_types (lists_of lists.now) }
-    ensures { IfOk result (λ typed. IsTrue typed ↔ HasMemoryOffset (lists_of lists.now) (segment_of segment.now).kind) }
+    ensures { IfOk result (λ typed. IsTrue typed ↔ HasMemoryOffset (lists_of typing.now.lists.now) (segment_of segment.now).kind) }
 {
-    memory_offset_holds(lists, defaults, &segment.kind, stack)
+    memory_offset_holds(typing, &segment.kind, stack)
 }
 
 /// An offset has the class of the memory's addresses, where there is such a memory.
 fn memory_offset_holds(
-    lists: &Lists<'_, '_>,
-    defaults: &[bool],
+    typing: &Typing<'_, '_, '_>,
     kind: &DataKind,
     stack: &mut Vec<Class>,
 ) -> Result<bool, AllocError>
-    requires noted { defaults.now ≡ defaults_of_types (lists_of lists.now) }
-    ensures { IfOk result (λ holds. IsTrue holds ↔ HasMemoryOffset (lists_of lists.now) (data_kind_of kind.now)) }
+    ensures { IfOk result (λ holds. IsTrue holds ↔ HasMemoryOffset (lists_of typing.now.lists.now) (data_kind_of kind.now)) }
 {
     match kind {
         DataKind::Passive => Ok(true),
         DataKind::Active {
             memory_index,
             offset,
-        } => match lists.spaces.memories.get(*memory_index as usize) {
+        } => match typing.lists.spaces.memories.get(*memory_index as usize) {
             Some(memory) => {
                 let class = address_class(memory.memory64);
-                is_typed(lists, defaults, all_globals(lists), offset, class, stack)
+                is_typed(typing, all_globals(typing.lists), offset, class, stack)
             }
             None => Ok(true),
         },
@@ -258,19 +241,17 @@ fn memory_offset_holds(
 /// Whether the initialiser of the global that has this index has the class of its type. It sees the
 /// globals of lower index.
 ///
-/// `defaults` are the types' `struct_defaults`. What `stack` holds has no effect.
+/// What `stack` holds has no effect.
 pub fn global_is_typed(
-    lists: &Lists<'_, '_>,
-    defaults: &[bool],
+    typing: &Typing<'_, '_, '_>,
     index: usize,
     global: &GlobalDef,
     stack: &mut Vec<Class>,
 ) -> Result<bool, AllocError>
-    requires noted { defaults.now ≡ defaults_of_types (lists_of lists.now) }
-    requires counted { index ≤ length lists.now.spaces.global_types.items }
-    ensures { IfOk result (λ typed. IsTrue typed ↔ IsGlobalTyped (lists_of lists.now) index (global_of global.now)) }
+    requires counted { index ≤ length typing.now.lists.now.spaces.global_types.items }
+    ensures { IfOk result (λ typed. IsTrue typed ↔ IsGlobalTyped (lists_of typing.now.lists.now) index (global_of global.now)) }
 {
     let class = class_of(&global.ty.content_type);
-    let visible = globals_below(lists, index);
-    is_typed(lists, defaults, visible, &global.init, class, stack)
+    let visible = globals_below(typing.lists, index);
+    is_typed(typing, visible, &global.init, class, stack)
 }

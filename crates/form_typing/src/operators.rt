@@ -11,9 +11,9 @@ ghost use Rattle.rule_spec.specs.Lists.{kind_at};
 ghost use Rattle.rule_spec.specs.Typing.{has_default, field_class, struct_fields, struct_at, array_field, array_at, signature, gives, joins, refers_to, where_true, global_signature};
 ghost use Rattle.form_lists.specs.Views.{lists_of};
 ghost use Rattle.form_typing.specs.Stack.{Taken};
-ghost use Rattle.form_typing.specs.Defaults.{defaults as defaults_of_types, default_signature};
+ghost use Rattle.form_typing.specs.Defaults.{default_signature};
 
-use crate::classes::{class_of, field_class, has_default};
+use crate::classes::{Typing, class_of, field_class, has_default};
 use crate::stack::{pop, pop_fields, pop_many, pop_two};
 use form_data::CompositeInnerType;
 use form_lists::Lists;
@@ -203,13 +203,11 @@ fn array_new_fixed(
     }
 }
 
-/// `defaults` says of each type whether it is a struct type of which each field has a default: the
-/// fields are not checked again.
-fn struct_new_default(lists: &Lists<'_, '_>, defaults: &[bool], ty: u32) -> Option<Class>
-    requires { defaults.now ≡ defaults_of_types (lists_of lists.now) }
-    ensures { option_and_then gives result ≡ default_signature (kind_at (lists_of lists.now) ty) }
+/// The fields are not checked again: `struct_defaults` checked those of each type.
+fn struct_new_default(typing: &Typing<'_, '_, '_>, ty: u32) -> Option<Class>
+    ensures { option_and_then gives result ≡ default_signature (kind_at (lists_of typing.now.lists.now) ty) }
 {
-    match defaults.get(ty as usize) {
+    match typing.defaults.get(ty as usize) {
         Some(true) => Some(Class::Ref),
         _ => None,
     }
@@ -219,15 +217,14 @@ fn struct_new_default(lists: &Lists<'_, '_>, defaults: &[bool], ty: u32) -> Opti
 
 /// Pops what the operator takes, and returns the class of what it pushes.
 pub fn take_operands(
-    lists: &Lists<'_, '_>,
-    defaults: &[bool],
+    typing: &Typing<'_, '_, '_>,
     visible: &[GlobalType],
     op: &Operator,
     stack: &mut Vec<Class>,
 ) -> Option<Class>
-    requires { defaults.now ≡ defaults_of_types (lists_of lists.now) }
-    ensures { Taken (signature (lists_of lists.now) visible.now op.now) stack.old.items stack.new.items result }
+    ensures { Taken (signature (lists_of typing.now.lists.now) visible.now op.now) stack.old.items stack.new.items result }
 {
+    let lists = typing.lists;
     match op {
         Operator::I32Const { .. } => Some(Class::I32),
         Operator::I64Const { .. } => Some(Class::I64),
@@ -243,7 +240,7 @@ pub fn take_operands(
         Operator::RefFunc { function_index } => ref_func(lists, *function_index),
         Operator::StructNew { struct_type_index } => struct_new(lists, *struct_type_index, stack),
         Operator::StructNewDefault { struct_type_index } => {
-            struct_new_default(lists, defaults, *struct_type_index)
+            struct_new_default(typing, *struct_type_index)
         }
         Operator::ArrayNew { array_type_index } => array_new(lists, *array_type_index, stack),
         Operator::ArrayNewDefault { array_type_index } => {

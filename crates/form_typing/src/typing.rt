@@ -5,12 +5,11 @@ ghost use Rattle.form_data.specs.Views.{expression_of};
 ghost use Rattle.rule_spec.specs.declared.classes.Class.TheVariants.{I32};
 ghost use Rattle.rule_spec.specs.Typing.{HasClass};
 ghost use Rattle.form_lists.specs.Views.{lists_of};
-ghost use Rattle.form_typing.specs.Defaults.{defaults as defaults_of_types};
 
+use crate::classes::Typing;
 use crate::constants::one_i32;
 use crate::operators::take_operands;
 use form_data::ConstExpr;
-use form_lists::Lists;
 use rule_spec::Class;
 use std::alloc::AllocError;
 use wasm_spec::GlobalType;
@@ -18,18 +17,15 @@ use wasm_spec::GlobalType;
 /// Whether the expression leads from the empty stack to one value of the class, where these globals
 /// are visible.
 ///
-/// `defaults` are the types' `struct_defaults`. What `stack` holds has no effect: it is a parameter
-/// so that all expressions share one list.
+/// What `stack` holds has no effect: it is a parameter so that all expressions share one list.
 pub fn is_typed(
-    lists: &Lists<'_, '_>,
-    defaults: &[bool],
+    typing: &Typing<'_, '_, '_>,
     visible: &[GlobalType],
     expression: &ConstExpr,
     class: Class,
     stack: &mut Vec<Class>,
 ) -> Result<bool, AllocError>
-    requires { defaults.now ≡ defaults_of_types (lists_of lists.now) }
-    ensures { IfOk result (λ typed. IsTrue typed ↔ HasClass (lists_of lists.now) visible.now (expression_of expression.now) class) }
+    ensures { IfOk result (λ typed. IsTrue typed ↔ HasClass (lists_of typing.now.lists.now) visible.now (expression_of expression.now) class) }
 {
     // Most expressions are one constant.
     if let Some(_value) = one_i32(expression) {
@@ -37,7 +33,7 @@ pub fn is_typed(
     }
     stack.clear();
     for op in &expression.ops {
-        match take_operands(lists, defaults, visible, op, stack) {
+        match take_operands(typing, visible, op, stack) {
             Some(pushed) => stack.push(pushed)?,
             None => return Ok(false),
         }

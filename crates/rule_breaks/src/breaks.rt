@@ -18,7 +18,7 @@ use crate::references::break_of_references;
 use crate::types::break_of_types;
 use entity_map::OutOfMemory;
 use form_lists::Lists;
-use form_typing::struct_defaults;
+use form_typing::{Typing, struct_defaults};
 use rule_spec::Rule;
 use std::alloc::Global;
 
@@ -50,16 +50,20 @@ pub(crate) fn located(
     ensures { IfOk result (Locates rule (lists_of lists.now)) }
 {
     let defaults = struct_defaults(alloc, lists)?;
+    let typing = Typing {
+        lists,
+        defaults: &defaults,
+    };
     match rule {
         Rule::L1 => Ok(None),
         Rule::L2 => break_of_types(lists),
         Rule::L3 => break_of_counts(alloc, lists),
         Rule::L4 => break_of_limits(lists),
-        Rule::L5 => break_of_tables(alloc, lists, &defaults),
-        Rule::L6 => break_of_expressions(alloc, lists, &defaults),
+        Rule::L5 => break_of_tables(alloc, &typing),
+        Rule::L6 => break_of_expressions(alloc, &typing),
         Rule::L7 => break_of_exports(alloc, lists),
         Rule::L8 => break_of_starts(lists),
-        Rule::L9 => break_of_segments(alloc, lists, &defaults),
-        Rule::L10 => break_of_references(alloc, lists, &defaults),
+        Rule::L9 => break_of_segments(alloc, &typing),
+        Rule::L10 => break_of_references(alloc, &typing),
     }
 }

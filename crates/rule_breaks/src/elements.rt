@@ -1,35 +1,32 @@
 //! The first element segment that breaks a rule. Element segments may stay in the input.
 
-ghost use Rattle.std.specs.Prelude.{◌≡◌, ◌↔◌, IsTrue, IfOk};
+ghost use Rattle.std.specs.Prelude.{◌↔◌, IsTrue, IfOk};
 ghost use Rattle.form_data.specs.Views.{element_of};
 ghost use Rattle.form_lists.specs.Views.{lists_of};
-ghost use Rattle.form_typing.specs.Defaults.{defaults as defaults_of_types};
 ghost use Rattle.rule_breaks.specs.Search.{Finds};
 ghost use Rattle.rule_breaks.specs.Kept.{ElementKeeps};
 
 use crate::numbers::next_number;
 use form_data::Element;
-use form_lists::{Lists, walk_of};
+use form_lists::walk_of;
 use form_rules::{element_is_in_range, element_refers};
-use form_typing::element_is_typed;
+use form_typing::{Typing, element_is_typed};
 use rule_spec::{Class, Rule};
 use std::alloc::{AllocError, Global};
 
-/// The first element segment that breaks a rule. `defaults` are those of `struct_defaults`.
+/// The first element segment that breaks a rule.
 pub(crate) fn first_element(
     alloc: Global,
-    lists: &Lists<'_, '_>,
+    typing: &Typing<'_, '_, '_>,
     rule: Rule,
-    defaults: &[bool],
 ) -> Result<Option<u32>, AllocError>
-    requires { defaults.now ≡ defaults_of_types (lists_of lists.now) }
-    ensures { IfOk result (Finds (ElementKeeps rule (lists_of lists.now)) (lists_of lists.now).elements) }
+    ensures { IfOk result (Finds (ElementKeeps rule (lists_of typing.now.lists.now)) (lists_of typing.now.lists.now).elements) }
 {
     let mut stack = Vec::new(alloc);
     let mut number = 0;
-    let mut elements = walk_of::<Element>(alloc, lists.source);
+    let mut elements = walk_of::<Element>(alloc, typing.lists.source);
     while elements.advance()? {
-        if !element_keeps(lists, rule, defaults, elements.entry(), &mut stack)? {
+        if !element_keeps(typing, rule, elements.entry(), &mut stack)? {
             return Ok(Some(number));
         }
         number = next_number(number)?;
@@ -38,19 +35,17 @@ pub(crate) fn first_element(
 }
 
 fn element_keeps(
-    lists: &Lists<'_, '_>,
+    typing: &Typing<'_, '_, '_>,
     rule: Rule,
-    defaults: &[bool],
     element: &Element,
     stack: &mut Vec<Class>,
 ) -> Result<bool, AllocError>
-    requires { defaults.now ≡ defaults_of_types (lists_of lists.now) }
-    ensures { IfOk result (λ kept. IsTrue kept ↔ ElementKeeps rule (lists_of lists.now) (element_of element.now)) }
+    ensures { IfOk result (λ kept. IsTrue kept ↔ ElementKeeps rule (lists_of typing.now.lists.now) (element_of element.now)) }
 {
     match rule {
-        Rule::L6 => element_is_typed(lists, defaults, element, stack),
-        Rule::L9 => Ok(element_is_in_range(lists, element)),
-        Rule::L10 => Ok(element_refers(lists.types.count() as usize, element)),
+        Rule::L6 => element_is_typed(typing, element, stack),
+        Rule::L9 => Ok(element_is_in_range(typing.lists, element)),
+        Rule::L10 => Ok(element_refers(typing.lists.types.count() as usize, element)),
         _ => Ok(true),
     }
 }

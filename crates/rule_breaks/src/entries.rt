@@ -1,11 +1,10 @@
 //! The first import, table, export or body that breaks a rule.
 
-ghost use Rattle.std.specs.Prelude.{◌≡◌, ◌↔◌, ◌≤◌, length, IsTrue, IfOk};
+ghost use Rattle.std.specs.Prelude.{◌↔◌, ◌≤◌, length, IsTrue, IfOk};
 ghost use Rattle.form_data.specs.Views.{table_of, body_of};
 ghost use Rattle.rule_spec.specs.Indices.{IsInSpace};
 ghost use Rattle.rule_spec.specs.References.{ImportRefersIn};
 ghost use Rattle.form_lists.specs.Views.{lists_of};
-ghost use Rattle.form_typing.specs.Defaults.{defaults as defaults_of_types};
 ghost use Rattle.rule_breaks.specs.Search.{Finds};
 ghost use Rattle.rule_breaks.specs.Kept.{TableKeeps, BodyKeeps};
 
@@ -15,7 +14,7 @@ use form_lists::{Lists, entries_of};
 use form_rules::{
     body_fits, body_refers, import_refers, is_in_space, is_initialised, table_refers,
 };
-use form_typing::table_holds;
+use form_typing::{Typing, table_holds};
 use rule_spec::{Class, Rule};
 use std::alloc::{AllocError, Global};
 
@@ -34,21 +33,19 @@ pub(crate) fn first_import(lists: &Lists<'_, '_>) -> Result<Option<u32>, AllocEr
     Ok(None)
 }
 
-/// The first table that breaks a rule. `defaults` are those of `struct_defaults`.
+/// The first table that breaks a rule.
 pub(crate) fn first_table(
     alloc: Global,
-    lists: &Lists<'_, '_>,
+    typing: &Typing<'_, '_, '_>,
     rule: Rule,
-    defaults: &[bool],
 ) -> Result<Option<u32>, AllocError>
-    requires noted { defaults.now ≡ defaults_of_types (lists_of lists.now) }
-    requires imported { lists.now.imported_globals ≤ length lists.now.spaces.global_types.items }
-    ensures { IfOk result (Finds (TableKeeps rule (lists_of lists.now)) (lists_of lists.now).tables) }
+    requires imported { typing.now.lists.now.imported_globals ≤ length typing.now.lists.now.spaces.global_types.items }
+    ensures { IfOk result (Finds (TableKeeps rule (lists_of typing.now.lists.now)) (lists_of typing.now.lists.now).tables) }
 {
     let mut stack = Vec::new(alloc);
     let mut number = 0;
-    for table in entries_of::<TableDef>(lists.source) {
-        if !table_keeps(lists, rule, defaults, table, &mut stack)? {
+    for table in entries_of::<TableDef>(typing.lists.source) {
+        if !table_keeps(typing, rule, table, &mut stack)? {
             return Ok(Some(number));
         }
         number = next_number(number)?;
@@ -57,20 +54,18 @@ pub(crate) fn first_table(
 }
 
 fn table_keeps(
-    lists: &Lists<'_, '_>,
+    typing: &Typing<'_, '_, '_>,
     rule: Rule,
-    defaults: &[bool],
     table: &TableDef,
     stack: &mut Vec<Class>,
 ) -> Result<bool, AllocError>
-    requires noted { defaults.now ≡ defaults_of_types (lists_of lists.now) }
-    requires imported { lists.now.imported_globals ≤ length lists.now.spaces.global_types.items }
-    ensures { IfOk result (λ kept. IsTrue kept ↔ TableKeeps rule (lists_of lists.now) (table_of table.now)) }
+    requires imported { typing.now.lists.now.imported_globals ≤ length typing.now.lists.now.spaces.global_types.items }
+    ensures { IfOk result (λ kept. IsTrue kept ↔ TableKeeps rule (lists_of typing.now.lists.now) (table_of table.now)) }
 {
     match rule {
         Rule::L5 => Ok(is_initialised(table)),
-        Rule::L6 => table_holds(lists, defaults, table, stack),
-        Rule::L10 => Ok(table_refers(lists.types.count() as usize, table)),
+        Rule::L6 => table_holds(typing, table, stack),
+        Rule::L10 => Ok(table_refers(typing.lists.types.count() as usize, table)),
         _ => Ok(true),
     }
 }

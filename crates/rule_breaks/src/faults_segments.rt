@@ -8,7 +8,6 @@ ghost use Rattle.rule_spec.specs.declared.classes.Class.TheVariants as class;
 ghost use Rattle.rule_spec.specs.Indices.{NamesMemory, IsElementInRange};
 ghost use Rattle.rule_spec.specs.Typing.{HasClass};
 ghost use Rattle.rule_spec.specs.References.{GlobalRefersIn};
-ghost use Rattle.form_typing.specs.Defaults.{defaults as defaults_of_types};
 ghost use Rattle.rule_spec.specs.Expressions.{HasTypedItems};
 ghost use Rattle.form_lists.specs.Views.{lists_of};
 ghost use Rattle.rule_breaks.specs.Search.{Finds};
@@ -25,7 +24,7 @@ use crate::numbers::next_number;
 use entity_map::OutOfMemory;
 use form_data::{ConstExpr, DataKind, DataSegment, Element, ElementItems, ElementKind, GlobalDef};
 use form_lists::{Lists, walk_of};
-use form_typing::{element_is_typed, struct_defaults};
+use form_typing::{Typing, element_is_typed, struct_defaults};
 use rule_spec::{Class, Rule};
 use std::alloc::{AllocError, Global};
 use wasm_spec::RefType;
@@ -148,11 +147,15 @@ fn mistyped_expression(
     ensures { IfOk result (Finds (λ e. HasClass (lists_of lists.now) (lists_of lists.now).global_types e class.Ref) (map expression_of list.now)) }
 {
     let defaults = struct_defaults(alloc, lists)?;
+    let typing = Typing {
+        lists,
+        defaults: &defaults,
+    };
     let mut stack = Vec::new(alloc);
     let mut number = 0;
     let mut left = list;
     while let Some((first, others)) = left.split_first() {
-        if !item_is_typed(alloc, lists, &defaults, ty, first, &mut stack)? {
+        if !item_is_typed(alloc, &typing, ty, first, &mut stack)? {
             return Ok(Some(number));
         }
         number = next_number(number)?;
@@ -161,22 +164,19 @@ fn mistyped_expression(
     Ok(None)
 }
 
-/// Whether an item is a reference: whether a segment is typed that has only this item. `defaults`
-/// are those of `struct_defaults`.
+/// Whether an item is a reference: whether a segment is typed that has only this item.
 fn item_is_typed(
     alloc: Global,
-    lists: &Lists<'_, '_>,
-    defaults: &[bool],
+    typing: &Typing<'_, '_, '_>,
     ty: RefType,
     item: &ConstExpr,
     stack: &mut Vec<Class>,
 ) -> Result<bool, AllocError>
-    requires { defaults.now ≡ defaults_of_types (lists_of lists.now) }
     ensures { IfOk result (λ typed. IsTrue typed
-        ↔ HasClass (lists_of lists.now) (lists_of lists.now).global_types (expression_of item.now) class.Ref) }
+        ↔ HasClass (lists_of typing.now.lists.now) (lists_of typing.now.lists.now).global_types (expression_of item.now) class.Ref) }
 {
     let alone = segment_of_item(alloc, ty, item)?;
-    element_is_typed(lists, defaults, &alone, stack)
+    element_is_typed(typing, &alone, stack)
 }
 
 /// A segment that has only this item, a copy of it.

@@ -1,9 +1,8 @@
 //! The first global that breaks a rule. Globals may stay in the input.
 
-ghost use Rattle.std.specs.Prelude.{◌≡◌, length, IfOk};
+ghost use Rattle.std.specs.Prelude.{length, IfOk};
 ghost use Rattle.rule_spec.specs.References.{GlobalRefersIn};
 ghost use Rattle.form_lists.specs.Views.{lists_of};
-ghost use Rattle.form_typing.specs.Defaults.{defaults as defaults_of_types};
 ghost use Rattle.form_rules.specs.Outcomes.{HasGlobals};
 ghost use Rattle.rule_breaks.specs.Search.{Finds};
 ghost use Rattle.rule_breaks.specs.Breaks.{FindsUntyped};
@@ -12,26 +11,23 @@ use crate::numbers::next_number;
 use form_data::GlobalDef;
 use form_lists::{Lists, walk_of};
 use form_rules::global_refers;
-use form_typing::global_is_typed;
+use form_typing::{Typing, global_is_typed};
 use std::alloc::{AllocError, Global};
 
-/// The first global whose initialiser has another class than its content. `defaults` are the types'
-/// `struct_defaults`.
+/// The first global whose initialiser has another class than its content.
 pub(crate) fn first_untyped_global(
     alloc: Global,
-    lists: &Lists<'_, '_>,
-    defaults: &[bool],
+    typing: &Typing<'_, '_, '_>,
 ) -> Result<Option<u32>, AllocError>
-    requires counted { HasGlobals (lists_of lists.now) }
-    requires noted { defaults.now ≡ defaults_of_types (lists_of lists.now) }
-    ensures { IfOk result (FindsUntyped (lists_of lists.now)) }
+    requires counted { HasGlobals (lists_of typing.now.lists.now) }
+    ensures { IfOk result (FindsUntyped (lists_of typing.now.lists.now)) }
 {
     let mut stack = Vec::new(alloc);
     let mut number = 0;
-    let mut index = lists.imported_globals;
-    let mut globals = walk_of::<GlobalDef>(alloc, lists.source);
+    let mut index = typing.lists.imported_globals;
+    let mut globals = walk_of::<GlobalDef>(alloc, typing.lists.source);
     while globals.advance()? {
-        if !global_is_typed(lists, defaults, index, globals.entry(), &mut stack)? {
+        if !global_is_typed(typing, index, globals.entry(), &mut stack)? {
             return Ok(Some(number));
         }
         number = next_number(number)?;

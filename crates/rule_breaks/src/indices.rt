@@ -7,7 +7,6 @@ ghost use Rattle.rule_spec.specs.declared.rules.Rule.{Rule};
 ghost use Rattle.rule_spec.specs.Indices.{CanStart};
 ghost use Rattle.form_lists.specs.Source.{source_module, sections_in};
 ghost use Rattle.form_lists.specs.Views.{lists_of};
-ghost use Rattle.form_typing.specs.Defaults.{defaults as defaults_of_types};
 ghost use Rattle.rule_breaks.specs.Search.{Finds};
 ghost use Rattle.rule_breaks.specs.Breaks.{Locates};
 
@@ -19,6 +18,7 @@ use entity_map::OutOfMemory;
 use form_data::Payload;
 use form_lists::{Lists, Section, sections_of};
 use form_rules::can_start;
+use form_typing::Typing;
 use rule_spec::Rule;
 use std::alloc::{AllocError, Global};
 
@@ -59,20 +59,17 @@ pub(crate) fn start_in(section: Section<'_, '_>) -> Option<u32>
     }
 }
 
-/// The first segment that names a table, function or memory that does not exist. `defaults` are the
-/// types' `struct_defaults`.
+/// The first segment that names a table, function or memory that does not exist.
 pub(crate) fn break_of_segments(
     alloc: Global,
-    lists: &Lists<'_, '_>,
-    defaults: &[bool],
+    typing: &Typing<'_, '_, '_>,
 ) -> Result<Option<Break>, OutOfMemory>
-    requires { defaults.now ≡ defaults_of_types (lists_of lists.now) }
-    ensures { IfOk result (Locates Rule.L9 (lists_of lists.now)) }
+    ensures { IfOk result (Locates Rule.L9 (lists_of typing.now.lists.now)) }
 {
-    if let Some(entry) = first_element(alloc, lists, Rule::L9, defaults)? {
+    if let Some(entry) = first_element(alloc, typing, Rule::L9)? {
         return Ok(at(ModuleList::Elements, entry));
     }
-    match first_segment(alloc, lists, Rule::L9, defaults)? {
+    match first_segment(alloc, typing, Rule::L9)? {
         Some(entry) => Ok(at(ModuleList::Segments, entry)),
         None => Ok(None),
     }

@@ -1,9 +1,8 @@
 //! The first break of rule L10, concrete references outside the type section.
 
-ghost use Rattle.std.specs.Prelude.{◌≡◌, ◌≤◌, length, IfOk};
+ghost use Rattle.std.specs.Prelude.{◌≤◌, length, IfOk};
 ghost use Rattle.rule_spec.specs.declared.rules.Rule.{Rule};
 ghost use Rattle.form_lists.specs.Views.{lists_of};
-ghost use Rattle.form_typing.specs.Defaults.{defaults as defaults_of_types};
 ghost use Rattle.rule_breaks.specs.Breaks.{Locates};
 
 use crate::elements::first_element;
@@ -12,7 +11,7 @@ use crate::globals::first_referring_global;
 use crate::lists::{Break, ModuleList, at};
 use crate::segments::first_segment;
 use entity_map::OutOfMemory;
-use form_lists::Lists;
+use form_typing::Typing;
 use rule_spec::Rule;
 use std::alloc::Global;
 
@@ -20,29 +19,27 @@ use std::alloc::Global;
 /// segments, bodies and data segments.
 pub(crate) fn break_of_references(
     alloc: Global,
-    lists: &Lists<'_, '_>,
-    defaults: &[bool],
+    typing: &Typing<'_, '_, '_>,
 ) -> Result<Option<Break>, OutOfMemory>
-    requires imported { lists.now.imported_globals ≤ length lists.now.spaces.global_types.items }
-    requires noted { defaults.now ≡ defaults_of_types (lists_of lists.now) }
-    ensures { IfOk result (Locates Rule.L10 (lists_of lists.now)) }
+    requires imported { typing.now.lists.now.imported_globals ≤ length typing.now.lists.now.spaces.global_types.items }
+    ensures { IfOk result (Locates Rule.L10 (lists_of typing.now.lists.now)) }
 {
-    if let Some(entry) = first_import(lists)? {
+    if let Some(entry) = first_import(typing.lists)? {
         return Ok(at(ModuleList::Imports, entry));
     }
-    if let Some(entry) = first_table(alloc, lists, Rule::L10, defaults)? {
+    if let Some(entry) = first_table(alloc, typing, Rule::L10)? {
         return Ok(at(ModuleList::Tables, entry));
     }
-    if let Some(entry) = first_referring_global(alloc, lists)? {
+    if let Some(entry) = first_referring_global(alloc, typing.lists)? {
         return Ok(at(ModuleList::Globals, entry));
     }
-    if let Some(entry) = first_element(alloc, lists, Rule::L10, defaults)? {
+    if let Some(entry) = first_element(alloc, typing, Rule::L10)? {
         return Ok(at(ModuleList::Elements, entry));
     }
-    if let Some(entry) = first_body(lists, Rule::L10)? {
+    if let Some(entry) = first_body(typing.lists, Rule::L10)? {
         return Ok(at(ModuleList::Bodies, entry));
     }
-    match first_segment(alloc, lists, Rule::L10, defaults)? {
+    match first_segment(alloc, typing, Rule::L10)? {
         Some(entry) => Ok(at(ModuleList::Segments, entry)),
         None => Ok(None),
     }

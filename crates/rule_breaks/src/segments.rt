@@ -5,33 +5,30 @@ ghost use Rattle.wasm_spec.specs.Module.{segments};
 ghost use Rattle.form_data.specs.Views.{segment_of};
 ghost use Rattle.form_lists.specs.Source.{source_module};
 ghost use Rattle.form_lists.specs.Views.{lists_of};
-ghost use Rattle.form_typing.specs.Defaults.{defaults as defaults_of_types};
 ghost use Rattle.rule_breaks.specs.Search.{Finds};
 ghost use Rattle.rule_breaks.specs.Kept.{SegmentKeeps};
 
 use crate::numbers::next_number;
 use form_data::DataSegment;
-use form_lists::{Lists, Source, walk_of};
+use form_lists::{Source, walk_of};
 use form_rules::{data_kind_refers, names_memory};
-use form_typing::segment_is_typed;
+use form_typing::{Typing, segment_is_typed};
 use rule_spec::{Class, Rule};
 use std::alloc::{AllocError, Global};
 
-/// The first data segment that breaks a rule. `defaults` are those of `struct_defaults`.
+/// The first data segment that breaks a rule.
 pub(crate) fn first_segment<'d>(
     alloc: Global,
-    lists: &Lists<'_, 'd>,
+    typing: &Typing<'_, '_, 'd>,
     rule: Rule,
-    defaults: &[bool],
 ) -> Result<Option<u32>, AllocError>
-    requires { defaults.now ≡ defaults_of_types (lists_of lists.now) }
-    ensures { IfOk result (Finds (SegmentKeeps rule (lists_of lists.now)) (lists_of lists.now).segments) }
+    ensures { IfOk result (Finds (SegmentKeeps rule (lists_of typing.now.lists.now)) (lists_of typing.now.lists.now).segments) }
 {
     let mut stack = Vec::new(alloc);
     let mut number = 0;
-    let mut segments = walk_of::<DataSegment<'d>>(alloc, lists.source);
+    let mut segments = walk_of::<DataSegment<'d>>(alloc, typing.lists.source);
     while segments.advance()? {
-        if !segment_keeps(lists, rule, defaults, segments.entry(), &mut stack)? {
+        if !segment_keeps(typing, rule, segments.entry(), &mut stack)? {
             return Ok(Some(number));
         }
         number = next_number(number)?;
@@ -40,19 +37,17 @@ pub(crate) fn first_segment<'d>(
 }
 
 fn segment_keeps(
-    lists: &Lists<'_, '_>,
+    typing: &Typing<'_, '_, '_>,
     rule: Rule,
-    defaults: &[bool],
     segment: &DataSegment<'_>,
     stack: &mut Vec<Class>,
 ) -> Result<bool, AllocError>
-    requires { defaults.now ≡ defaults_of_types (lists_of lists.now) }
-    ensures { IfOk result (λ kept. IsTrue kept ↔ SegmentKeeps rule (lists_of lists.now) (segment_of segment.now)) }
+    ensures { IfOk result (λ kept. IsTrue kept ↔ SegmentKeeps rule (lists_of typing.now.lists.now) (segment_of segment.now)) }
 {
     match rule {
-        Rule::L6 => segment_is_typed(lists, defaults, segment, stack),
-        Rule::L9 => Ok(names_memory(lists, &segment.kind)),
-        Rule::L10 => Ok(data_kind_refers(lists.types.count() as usize, &segment.kind)),
+        Rule::L6 => segment_is_typed(typing, segment, stack),
+        Rule::L9 => Ok(names_memory(typing.lists, &segment.kind)),
+        Rule::L10 => Ok(data_kind_refers(typing.lists.types.count() as usize, &segment.kind)),
         _ => Ok(true),
     }
 }

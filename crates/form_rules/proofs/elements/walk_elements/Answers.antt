@@ -10,7 +10,7 @@ use Rattle.form_rules.proofs.elements.walk_elements.Goals as goal
 
 pub loop-elements-preserved : goal.loop-elements-preserved
 loop-elements-preserved c =
-    let l = lists_of c.args.lists.now in
+    let l = lists_of c.args.typing.now.lists.now in
     let e = element_of c.entry.result.now in
     let at = taken _ _ _ _ _ c.if-branch.true c.in_ok-advance.ensures c.entry.ensures in
     let so_far = c.loop-elements.invariant in
@@ -23,7 +23,7 @@ loop-elements-preserved c =
 
 pub returns : goal.returns
 returns c =
-    let l = lists_of c.args.lists.now in
+    let l = lists_of c.args.typing.now.lists.now in
     let so_far = c.loop-elements.invariant in
     record {
       typed = asked_all (by_All (IsElementTyped l)) _ _ _ _ _ so_far.typed _ c.if-branch.false c.in_ok-advance.ensures;

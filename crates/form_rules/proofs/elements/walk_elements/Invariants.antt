@@ -12,7 +12,7 @@ use Rattle.form_rules.proofs.elements.walk_elements.Given as goal
 -- all hold exactly where those checked so far and the remaining ones do
 abbrev pub invariant-loop-elements : goal.invariant-loop-elements
 invariant-loop-elements l =
-    let ls = lists_of l.lists in
+    let ls = lists_of l.typing.lists.now in
     let left = walk_left element_segment.read element_of elements_of_section l.elements in
     record {
       typed : (IsTrue l.kept.typed × All (IsElementTyped ls) left) ↔ All (IsElementTyped ls) ls.elements;

@@ -5,7 +5,7 @@ use Rattle.form_rules.proofs.elements.with_element.Goals as goal
 
 pub returns-then-before : goal.returns-then-before
 returns-then-before c =
-    let l = lists_of c.args.lists.now in
+    let l = lists_of c.args.typing.now.lists.now in
     let yes = c.if-is_plain_element.true in
     record {
       typed = also (c.is_plain_element.ensures.typed yes);
@@ -18,7 +18,7 @@ returns-then-before c =
 
 pub returns-else-before : goal.returns-else-before
 returns-else-before c =
-    let l = lists_of c.args.lists.now in
+    let l = lists_of c.args.typing.now.lists.now in
     let yes = c.if-is_plain_element.true in
     record {
       typed = also (c.is_plain_element.ensures.typed yes);

@@ -8,7 +8,7 @@ use Rattle.form_rules.proofs.globals.walk_globals.Goals as goal
 
 pub loop-globals-preserved : goal.loop-globals-preserved
 loop-globals-preserved c =
-    let l = lists_of c.args.lists.now in
+    let l = lists_of c.args.typing.now.lists.now in
     let g = global_of c.entry.result.now in
     let at = taken _ _ _ _ _ c.if-branch.true c.in_ok-advance.ensures c.entry.ensures in
     let so_far = c.loop-globals.invariant in
@@ -21,7 +21,7 @@ loop-globals-preserved c =
 
 pub returns : goal.returns
 returns c =
-    let l = lists_of c.args.lists.now in
+    let l = lists_of c.args.typing.now.lists.now in
     let so_far = c.loop-globals.invariant in
     record {
       typed = asked_all (by_globals l c.loop-globals.index) _ _ _ _ _ so_far.typed _ c.if-branch.false c.in_ok-advance.ensures;

@@ -11,7 +11,7 @@ use Rattle.form_rules.proofs.globals.walk_globals.Given as goal
 -- all hold exactly where those checked so far and the remaining ones do
 abbrev pub invariant-loop-globals : goal.invariant-loop-globals
 invariant-loop-globals l =
-    let ls = lists_of l.lists in
+    let ls = lists_of l.typing.lists.now in
     let left = walk_left global_entry.read global_of globals_of_section l.globals in
     record {
       counted : l.index + length left ≤ length ls.global_types;

@@ -11,7 +11,7 @@ use Rattle.form_rules.proofs.rules.checked_lists.Given as goal
 -- the first rule and the rules so far are kept, and the names of exports are pooled, where they are distinct
 abbrev pub invariant-loop-rule : goal.invariant-loop-rule
 invariant-loop-rule l = record {
-  kept : (r : Rule) → number_of r < l.rule-index + 2 → Satisfies r (lists_of l.lists);
+  kept : (r : Rule) → number_of r < l.rule-index + 2 → Satisfies r (lists_of l.typing.lists.now);
   pooled : IfSome l.names (λ texts. texts ≡ exported_names (lists_of_module (source_module l.source)).exports);
   distinct : l.asked.distinct ≡ is_some l.names;
 }

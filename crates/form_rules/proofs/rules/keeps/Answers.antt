@@ -12,7 +12,7 @@ asked : {E : Type 0} (l : Lists) {rule arm : Rule} (result : Result Bool E) → 
 asked l result is = subst (λ r. IfOk result (λ (kept : Bool). IsTrue kept ↔ Satisfies r l)) (sym is)
 
 pub returns-in-L2 : goal.returns-in-L2
-returns-in-L2 c = asked (lists_of c.args.lists.now) c.types_are_named.result c.in-L2.is c.types_are_named.ensures
+returns-in-L2 c = asked (lists_of c.args.typing.now.lists.now) c.types_are_named.result c.in-L2.is c.types_are_named.ensures
 
 pub returns-in-L6 : goal.returns-in-L6
-returns-in-L6 c = asked (lists_of c.args.lists.now) c.expressions_hold.result c.in-L6.is c.expressions_hold.ensures
+returns-in-L6 c = asked (lists_of c.args.typing.now.lists.now) c.expressions_hold.result c.in-L6.is c.expressions_hold.ensures

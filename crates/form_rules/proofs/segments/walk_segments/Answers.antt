@@ -11,7 +11,7 @@ use Rattle.form_rules.proofs.segments.walk_segments.Goals as goal
 
 pub loop-segments-preserved : goal.loop-segments-preserved
 loop-segments-preserved c =
-    let l = lists_of c.args.lists.now in
+    let l = lists_of c.args.typing.now.lists.now in
     let s = segment_of c.entry.result.now in
     let at = taken _ _ _ _ _ c.if-branch.true c.in_ok-advance.ensures c.entry.ensures in
     let so_far = c.loop-segments.invariant in
@@ -25,7 +25,7 @@ loop-segments-preserved c =
 
 pub returns : goal.returns
 returns c =
-    let l = lists_of c.args.lists.now in
+    let l = lists_of c.args.typing.now.lists.now in
     let so_far = c.loop-segments.invariant in
     record {
       count = all_counted _ _ _ _ _ _ c.if-branch.false c.in_ok-advance.ensures so_far.count;

@@ -12,7 +12,7 @@ use Rattle.form_rules.proofs.segments.walk_segments.Given as goal
 -- all hold exactly where those checked so far and the remaining ones do
 abbrev pub invariant-loop-segments : goal.invariant-loop-segments
 invariant-loop-segments l =
-    let ls = lists_of l.lists in
+    let ls = lists_of l.typing.lists.now in
     let left = walk_left data_segment.read segment_of segments_of_section l.segments in
     record {
       count : l.kept.count + length left ≡ length ls.segments;

@@ -5,7 +5,7 @@ use Rattle.form_rules.proofs.segments.with_segment.Goals as goal
 
 pub returns-then-is_plain_segment : goal.returns-then-is_plain_segment
 returns-then-is_plain_segment c =
-    let l = lists_of c.args.lists.now in
+    let l = lists_of c.args.typing.now.lists.now in
     let yes = c.if-is_plain_segment.true in
     record {
       count = c.in_ok-count.ensures;

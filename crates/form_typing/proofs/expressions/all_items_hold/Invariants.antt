@@ -8,4 +8,4 @@ use Rattle.form_typing.proofs.expressions.all_items_hold.Given as goal
 
 -- the expressions of the entries so far are typed
 abbrev pub invariant-loop-item : goal.invariant-loop-item
-invariant-loop-item l = All (λ (e : Expression). HasClass (lists_of l.lists) l.lists.spaces.global_types.items e class.Ref) (map expression_of (take l.item-index l.items))
+invariant-loop-item l = All (λ (e : Expression). HasClass (lists_of l.typing.lists.now) l.typing.lists.now.spaces.global_types.items e class.Ref) (map expression_of (take l.item-index l.items))

@@ -12,7 +12,7 @@ use Rattle.form_typing.proofs.expressions.items_hold.Goals as goal
 
 pub returns-in-Expressions : goal.returns-in-Expressions
 returns-in-Expressions c =
-    let l = lists_of c.args.lists.now in
+    let l = lists_of c.args.typing.now.lists.now in
     let P : List ConstExpr → Type 0 = λ es. IfOk c.all_items_hold.result (λ (hold : Bool). IsTrue hold ↔ All (λ (e : Expression). HasClass l l.global_types e class.Ref) (map expression_of es)) in
     let Q : ElementItems → Type 0 = λ its. IfOk c.all_items_hold.result (λ (hold : Bool). IsTrue hold ↔ HasTypedItems l (items_of its)) in
     subst Q (sym c.in-Expressions.is) (subst P c.deref.ensures.value c.all_items_hold.ensures)

@@ -10,5 +10,5 @@ use Rattle.form_typing.proofs.expressions.tables_hold.Given as goal
 
 -- all are typed exactly where the remaining ones are
 abbrev pub invariant-loop-table : goal.invariant-loop-table
-invariant-loop-table l = All (HasTypedInitialiser (lists_of l.lists)) (entries_left table_of tables_of_section l.table-iterator)
-    ↔ All (HasTypedInitialiser (lists_of l.lists)) (flat_map tables_of_section (source_module l.lists.source))
+invariant-loop-table l = All (HasTypedInitialiser (lists_of l.typing.lists.now)) (entries_left table_of tables_of_section l.table-iterator)
+    ↔ All (HasTypedInitialiser (lists_of l.typing.lists.now)) (flat_map tables_of_section (source_module l.typing.lists.now.source))

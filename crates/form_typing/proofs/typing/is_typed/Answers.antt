@@ -9,7 +9,7 @@ use Rattle.form_typing.proofs.typing.is_typed.Goals as goal
 
 pub returns-in-Some : goal.returns-in-Some
 returns-in-Some c =
-    let l = lists_of c.args.lists.now in
+    let l = lists_of c.args.typing.now.lists.now in
     let ops = c.args.expression.now.ops.items in
     let both = one_leads l c.args.visible.now _ ops c.args.class _ c.in-Some.ensures c.is_i32.ensures in
     (λ typed. has_class l c.args.visible.now ops c.args.class (both.0 typed), λ typed. both.1 (leads_to l c.args.visible.now ops c.args.class typed))
@@ -17,13 +17,13 @@ returns-in-Some c =
 pub loop-op-preserved : goal.loop-op-preserved
 loop-op-preserved c =
     let ops = c.deref-op-items.result.now in
-    leads_more (lists_of c.args.lists.now) c.args.visible.now ops c.loop-op.op-index no_operator (get_or ops c.loop-op.op-index no_operator)
+    leads_more (lists_of c.args.typing.now.lists.now) c.args.visible.now ops c.loop-op.op-index no_operator (get_or ops c.loop-op.op-index no_operator)
     c.loop-op.stack.items c.take_operands.new.stack.items c.push.new.self.items c.in-Some-take_operands.pushed c.loop-op-test.true refl
     c.loop-op.invariant c.in-Some-take_operands.ensures c.in_ok-push-in-Some-take_operands.ensures.items
 
 pub returns-in-None : goal.returns-in-None
 returns-in-None c =
-    let l = lists_of c.args.lists.now in
+    let l = lists_of c.args.typing.now.lists.now in
     let ops = c.deref-op-items.result.now in
     let P : List Operator → Type 0 = λ os. Leads l c.args.visible.now os [] (c.args.class ∷ []) in (
       λ answered. absurd (cc),
@@ -35,7 +35,7 @@ returns-in-None c =
 
 pub returns : goal.returns
 returns c =
-    let l = lists_of c.args.lists.now in
+    let l = lists_of c.args.typing.now.lists.now in
     let ops = c.args.expression.now.ops.items in
     let P : List Operator → Type 0 = λ os. Leads l c.args.visible.now os [] c.loop-op.stack.items in
     let all = subst P (take_all c.loop-op.op-index c.deref-op-items.result.now c.loop-op-test.false ∙ c.deref-op-items.ensures.value) c.loop-op.invariant in (

@@ -5,4 +5,4 @@ use Rattle.form_typing.proofs.typing.is_typed.Given as goal
 
 -- the operators so far lead from the empty stack to this one
 abbrev pub invariant-loop-op : goal.invariant-loop-op
-invariant-loop-op l = Leads (lists_of l.lists) l.visible (take l.op-index l.op-items) [] l.stack.items
+invariant-loop-op l = Leads (lists_of l.typing.lists.now) l.visible (take l.op-index l.op-items) [] l.stack.items

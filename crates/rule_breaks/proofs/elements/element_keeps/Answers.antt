@@ -8,5 +8,5 @@ use Rattle.rule_breaks.proofs.elements.element_keeps.Goals as goal
 
 pub returns-in-L6 : goal.returns-in-L6
 returns-in-L6 c =
-    let Kept : Rule → Type 0 = λ r. IfOk c.element_is_typed.result (λ (kept : Bool). IsTrue kept ↔ ElementKeeps r (lists_of c.args.lists.now) (element_of c.args.element.now)) in
+    let Kept : Rule → Type 0 = λ r. IfOk c.element_is_typed.result (λ (kept : Bool). IsTrue kept ↔ ElementKeeps r (lists_of c.args.typing.now.lists.now) (element_of c.args.element.now)) in
     subst Kept (sym c.in-L6.is) c.element_is_typed.ensures

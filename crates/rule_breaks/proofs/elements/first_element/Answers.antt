@@ -12,15 +12,15 @@ loop-elements-init c = passes_none _ _ _ (search rules)
 pub loop-elements-preserved : goal.loop-elements-preserved
 loop-elements-preserved c =
     let at = taken _ _ _ _ _ c.if-branch.true c.in_ok-advance.ensures c.entry.ensures in
-    passes_more (ElementKeeps c.args.rule (lists_of c.args.lists.now)) _ _ _ _ (element_of c.entry.result.now) c.loop-elements.invariant at _ c.in_ok-number.ensures
+    passes_more (ElementKeeps c.args.rule (lists_of c.args.typing.now.lists.now)) _ _ _ _ (element_of c.entry.result.now) c.loop-elements.invariant at _ c.in_ok-number.ensures
     (c.in_ok-element_keeps.ensures.0 c.if-not-branch.false)
 
 pub returns-then-not-branch : goal.returns-then-not-branch
 returns-then-not-branch c =
     let at = taken _ _ _ _ _ c.if-branch.true c.in_ok-advance.ensures c.entry.ensures in
-    passes_fails (ElementKeeps c.args.rule (lists_of c.args.lists.now)) _ _ _ _ (element_of c.entry.result.now) c.loop-elements.invariant at _ c.if-not-branch.true
+    passes_fails (ElementKeeps c.args.rule (lists_of c.args.typing.now.lists.now)) _ _ _ _ (element_of c.entry.result.now) c.loop-elements.invariant at _ c.if-not-branch.true
     c.in_ok-element_keeps.ensures
 
 pub returns : goal.returns
 returns c =
-    passes_ended (ElementKeeps c.args.rule (lists_of c.args.lists.now)) _ _ _ _ _ _ c.loop-elements.invariant c.if-branch.false c.in_ok-advance.ensures
+    passes_ended (ElementKeeps c.args.rule (lists_of c.args.typing.now.lists.now)) _ _ _ _ _ _ c.loop-elements.invariant c.if-branch.false c.in_ok-advance.ensures

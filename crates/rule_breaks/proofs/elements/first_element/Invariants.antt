@@ -10,7 +10,7 @@ use Rattle.rule_breaks.proofs.elements.first_element.Given as goal
 
 -- those so far keep the rule
 abbrev pub invariant-loop-elements : goal.invariant-loop-elements
-invariant-loop-elements l = Passes (ElementKeeps l.rule (lists_of l.lists)) l.number (walk_left element_segment.read element_of elements_of_section l.elements) (lists_of l.lists).elements
+invariant-loop-elements l = Passes (ElementKeeps l.rule (lists_of l.typing.lists.now)) l.number (walk_left element_segment.read element_of elements_of_section l.elements) (lists_of l.typing.lists.now).elements
 
 abbrev pub decreases-loop-elements : goal.decreases-loop-elements
 decreases-loop-elements l = length (walk_left element_segment.read element_of elements_of_section l.elements)

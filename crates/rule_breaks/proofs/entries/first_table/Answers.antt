@@ -10,12 +10,12 @@ loop-table-init c = passes_none _ _ _ (search rules)
 
 pub loop-table-preserved : goal.loop-table-preserved
 loop-table-preserved c =
-    passes_more (TableKeeps c.args.rule (lists_of c.args.lists.now)) _ _ _ _ (table_of c.in-Some.table.now) c.loop-table.invariant c.in-Some.ensures.steps _ c.in_ok-number.ensures
+    passes_more (TableKeeps c.args.rule (lists_of c.args.typing.now.lists.now)) _ _ _ _ (table_of c.in-Some.table.now) c.loop-table.invariant c.in-Some.ensures.steps _ c.in_ok-number.ensures
     (c.in_ok-table_keeps.ensures.0 c.if-not-branch.false)
 
 pub returns-then-not-branch : goal.returns-then-not-branch
 returns-then-not-branch c =
-    passes_fails (TableKeeps c.args.rule (lists_of c.args.lists.now)) _ _ _ _ (table_of c.in-Some.table.now) c.loop-table.invariant c.in-Some.ensures.steps _ c.if-not-branch.true c.in_ok-table_keeps.ensures
+    passes_fails (TableKeeps c.args.rule (lists_of c.args.typing.now.lists.now)) _ _ _ _ (table_of c.in-Some.table.now) c.loop-table.invariant c.in-Some.ensures.steps _ c.if-not-branch.true c.in_ok-table_keeps.ensures
 
 pub returns : goal.returns
-returns c = passes_all (TableKeeps c.args.rule (lists_of c.args.lists.now)) _ _ _ c.loop-table.invariant c.in-None.ensures.steps.0
+returns c = passes_all (TableKeeps c.args.rule (lists_of c.args.typing.now.lists.now)) _ _ _ c.loop-table.invariant c.in-None.ensures.steps.0

@@ -8,4 +8,4 @@ use Rattle.rule_breaks.proofs.entries.first_table.Given as goal
 
 -- those so far keep the rule
 abbrev pub invariant-loop-table : goal.invariant-loop-table
-invariant-loop-table l = Passes (TableKeeps l.rule (lists_of l.lists)) l.number (entries_left table_of tables_of_section l.table-iterator) (lists_of l.lists).tables
+invariant-loop-table l = Passes (TableKeeps l.rule (lists_of l.typing.lists.now)) l.number (entries_left table_of tables_of_section l.table-iterator) (lists_of l.typing.lists.now).tables

@@ -21,7 +21,7 @@ loop-globals-preserved c =
     record {
       counted = omega (arith, ap length at, so_far.counted);
       place = omega (arith, so_far.place, c.in_ok-number.ensures);
-      passes = globals_pass_more (lists_of c.args.lists.now) _ _ _ (global_of c.entry.result.now) so_far.passes at _ c.loop-globals.index c.in_ok-number.ensures so_far.place
+      passes = globals_pass_more (lists_of c.args.typing.now.lists.now) _ _ _ (global_of c.entry.result.now) so_far.passes at _ c.loop-globals.index c.in_ok-number.ensures so_far.place
           (c.in_ok-global_is_typed.ensures.0 c.if-not-branch.false);
     }
 
@@ -29,8 +29,8 @@ pub returns-then-not-branch : goal.returns-then-not-branch
 returns-then-not-branch c =
     let at = taken _ _ _ _ _ c.if-branch.true c.in_ok-advance.ensures c.entry.ensures in
     let so_far = c.loop-globals.invariant in
-    globals_pass_fails (lists_of c.args.lists.now) _ _ _ (global_of c.entry.result.now) so_far.passes at c.loop-globals.index so_far.place _ c.if-not-branch.true
+    globals_pass_fails (lists_of c.args.typing.now.lists.now) _ _ _ (global_of c.entry.result.now) so_far.passes at c.loop-globals.index so_far.place _ c.if-not-branch.true
     c.in_ok-global_is_typed.ensures
 
 pub returns : goal.returns
-returns c = globals_pass_ended (lists_of c.args.lists.now) _ _ _ _ _ c.loop-globals.invariant.passes c.if-branch.false c.in_ok-advance.ensures
+returns c = globals_pass_ended (lists_of c.args.typing.now.lists.now) _ _ _ _ _ c.loop-globals.invariant.passes c.if-branch.false c.in_ok-advance.ensures

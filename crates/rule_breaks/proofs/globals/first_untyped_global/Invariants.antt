@@ -10,7 +10,7 @@ use Rattle.rule_breaks.proofs.globals.first_untyped_global.Given as goal
 -- those so far are typed
 abbrev pub invariant-loop-globals : goal.invariant-loop-globals
 invariant-loop-globals l =
-    let ls = lists_of l.lists in
+    let ls = lists_of l.typing.lists.now in
     let left = walk_left global_entry.read global_of globals_of_section l.globals in
     record {
       counted : l.index + length left ≤ length ls.global_types;

@@ -12,15 +12,15 @@ loop-segments-init c = passes_none _ _ _ (search rules)
 pub loop-segments-preserved : goal.loop-segments-preserved
 loop-segments-preserved c =
     let at = taken _ _ _ _ _ c.if-branch.true c.in_ok-advance.ensures c.entry.ensures in
-    passes_more (SegmentKeeps c.args.rule (lists_of c.args.lists.now)) _ _ _ _ (segment_of c.entry.result.now) c.loop-segments.invariant at _ c.in_ok-number.ensures
+    passes_more (SegmentKeeps c.args.rule (lists_of c.args.typing.now.lists.now)) _ _ _ _ (segment_of c.entry.result.now) c.loop-segments.invariant at _ c.in_ok-number.ensures
     (c.in_ok-segment_keeps.ensures.0 c.if-not-branch.false)
 
 pub returns-then-not-branch : goal.returns-then-not-branch
 returns-then-not-branch c =
     let at = taken _ _ _ _ _ c.if-branch.true c.in_ok-advance.ensures c.entry.ensures in
-    passes_fails (SegmentKeeps c.args.rule (lists_of c.args.lists.now)) _ _ _ _ (segment_of c.entry.result.now) c.loop-segments.invariant at _ c.if-not-branch.true
+    passes_fails (SegmentKeeps c.args.rule (lists_of c.args.typing.now.lists.now)) _ _ _ _ (segment_of c.entry.result.now) c.loop-segments.invariant at _ c.if-not-branch.true
     c.in_ok-segment_keeps.ensures
 
 pub returns : goal.returns
 returns c =
-    passes_ended (SegmentKeeps c.args.rule (lists_of c.args.lists.now)) _ _ _ _ _ _ c.loop-segments.invariant c.if-branch.false c.in_ok-advance.ensures
+    passes_ended (SegmentKeeps c.args.rule (lists_of c.args.typing.now.lists.now)) _ _ _ _ _ _ c.loop-segments.invariant c.if-branch.false c.in_ok-advance.ensures

@@ -10,7 +10,7 @@ use Rattle.rule_breaks.proofs.segments.first_segment.Given as goal
 
 -- those so far keep the rule
 abbrev pub invariant-loop-segments : goal.invariant-loop-segments
-invariant-loop-segments l = Passes (SegmentKeeps l.rule (lists_of l.lists)) l.number (walk_left data_segment.read segment_of segments_of_section l.segments) (lists_of l.lists).segments
+invariant-loop-segments l = Passes (SegmentKeeps l.rule (lists_of l.typing.lists.now)) l.number (walk_left data_segment.read segment_of segments_of_section l.segments) (lists_of l.typing.lists.now).segments
 
 abbrev pub decreases-loop-segments : goal.decreases-loop-segments
 decreases-loop-segments l = length (walk_left data_segment.read segment_of segments_of_section l.segments)

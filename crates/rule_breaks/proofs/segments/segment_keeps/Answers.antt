@@ -8,5 +8,5 @@ use Rattle.rule_breaks.proofs.segments.segment_keeps.Goals as goal
 
 pub returns-in-L6 : goal.returns-in-L6
 returns-in-L6 c =
-    let Kept : Rule → Type 0 = λ r. IfOk c.segment_is_typed.result (λ (kept : Bool). IsTrue kept ↔ SegmentKeeps r (lists_of c.args.lists.now) (segment_of c.args.segment.now)) in
+    let Kept : Rule → Type 0 = λ r. IfOk c.segment_is_typed.result (λ (kept : Bool). IsTrue kept ↔ SegmentKeeps r (lists_of c.args.typing.now.lists.now) (segment_of c.args.segment.now)) in
     subst Kept (sym c.in-L6.is) c.segment_is_typed.ensures
