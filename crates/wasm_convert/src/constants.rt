@@ -138,6 +138,8 @@ impl ConstExpr {
             // One constant needs no stack.
             [ConstOp::I32Const(value)] => Some(GlobalConstValue::I32(*value)),
             [ConstOp::I64Const(value)] => Some(GlobalConstValue::I64(*value)),
+            // Another first operator finds no value.
+            [first, ..] if first.constant().is_none() => None,
             ops => evaluated(ops),
         }
     }
