@@ -116,13 +116,13 @@ fn passive_elements_of(
 ) -> Result<Vec<PassiveElementsRow>, OutOfMemory>
     ensures { IfOk result (λ rows. rows.items ≡ map passive_elements_row elements.now) }
 {
-    let rows = elements
-        .iter()
-        .map(|segment| PassiveElementsRow {
+    let mut rows = Vec::with_capacity(alloc, elements.len())?;
+    for segment in elements {
+        rows.push(PassiveElementsRow {
             element: ref_row(segment.0),
             count: segment.1,
-        })
-        .collect(alloc)?;
+        })?;
+    }
     Ok(rows)
 }
 

@@ -43,10 +43,10 @@ fn global_values_of(
 ) -> Result<Vec<GlobalValueRow>, OutOfMemory>
     ensures { IfOk result (λ rows. rows.items ≡ map global_value_row values.now) }
 {
-    let rows = values
-        .iter()
-        .map(|value| global_value_row(value.0, value.1))
-        .collect(alloc)?;
+    let mut rows = Vec::with_capacity(alloc, values.len())?;
+    for value in values {
+        rows.push(global_value_row(value.0, value.1))?;
+    }
     Ok(rows)
 }
 
@@ -57,10 +57,10 @@ fn expressed_globals_of(
 ) -> Result<Vec<u32>, OutOfMemory>
     ensures { IfOk result (λ numbers. numbers.items ≡ map (λ g. number_of g.0) globals.now) }
 {
-    let numbers = globals
-        .iter()
-        .map(|global| global.0.as_u32())
-        .collect(alloc)?;
+    let mut numbers = Vec::with_capacity(alloc, globals.len())?;
+    for global in globals {
+        numbers.push(global.0.as_u32())?;
+    }
     Ok(numbers)
 }
 

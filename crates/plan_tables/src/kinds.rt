@@ -47,7 +47,11 @@ fn memory_row(memory: &Memory) -> MemoryRow
 fn memories_of(alloc: Heap, memories: &[Memory]) -> Result<Vec<MemoryRow>, OutOfMemory>
     ensures { IfOk result (λ rows. rows.items ≡ map memory_row memories.now) }
 {
-    Ok(memories.iter().map(memory_row).collect(alloc)?)
+    let mut rows = Vec::with_capacity(alloc, memories.len())?;
+    for memory in memories {
+        rows.push(memory_row(memory))?;
+    }
+    Ok(rows)
 }
 
 fn table_row(table: &Table) -> TableRow
@@ -65,7 +69,11 @@ fn table_row(table: &Table) -> TableRow
 fn tables_of(alloc: Heap, tables: &[Table]) -> Result<Vec<TableRow>, OutOfMemory>
     ensures { IfOk result (λ rows. rows.items ≡ map table_row tables.now) }
 {
-    Ok(tables.iter().map(table_row).collect(alloc)?)
+    let mut rows = Vec::with_capacity(alloc, tables.len())?;
+    for table in tables {
+        rows.push(table_row(table))?;
+    }
+    Ok(rows)
 }
 
 fn global_row(global: &Global) -> GlobalRow
@@ -80,7 +88,11 @@ fn global_row(global: &Global) -> GlobalRow
 fn globals_of(alloc: Heap, globals: &[Global]) -> Result<Vec<GlobalRow>, OutOfMemory>
     ensures { IfOk result (λ rows. rows.items ≡ map global_row globals.now) }
 {
-    Ok(globals.iter().map(global_row).collect(alloc)?)
+    let mut rows = Vec::with_capacity(alloc, globals.len())?;
+    for global in globals {
+        rows.push(global_row(global))?;
+    }
+    Ok(rows)
 }
 
 fn tag_row(tag: &Tag) -> TagRow
@@ -95,5 +107,9 @@ fn tag_row(tag: &Tag) -> TagRow
 fn tags_of(alloc: Heap, tags: &[Tag]) -> Result<Vec<TagRow>, OutOfMemory>
     ensures { IfOk result (λ rows. rows.items ≡ map tag_row tags.now) }
 {
-    Ok(tags.iter().map(tag_row).collect(alloc)?)
+    let mut rows = Vec::with_capacity(alloc, tags.len())?;
+    for tag in tags {
+        rows.push(tag_row(tag))?;
+    }
+    Ok(rows)
 }

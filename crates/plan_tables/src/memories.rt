@@ -45,13 +45,13 @@ pub(crate) fn memories_record<'d>(
 fn ranges_of(alloc: Global, ranges: &[Range<u32>]) -> Result<Vec<NumberRange>, OutOfMemory>
     ensures { IfOk result (λ rows. rows.items ≡ map data_range ranges.now) }
 {
-    let rows = ranges
-        .iter()
-        .map(|range| NumberRange {
+    let mut rows = Vec::with_capacity(alloc, ranges.len())?;
+    for range in ranges {
+        rows.push(NumberRange {
             begin: range.start,
             end: range.end,
-        })
-        .collect(alloc)?;
+        })?;
+    }
     Ok(rows)
 }
 

@@ -74,7 +74,11 @@ pub(crate) fn segments_of(
 ) -> Result<Vec<SegmentRow>, OutOfMemory>
     ensures { IfOk result (λ rows. rows.items ≡ map segment_row planned.now) }
 {
-    Ok(planned.iter().map(segment_row).collect(alloc)?)
+    let mut rows = Vec::with_capacity(alloc, planned.len())?;
+    for segment in planned {
+        rows.push(segment_row(segment))?;
+    }
+    Ok(rows)
 }
 
 fn element_row(segment: &TableSegment) -> ElementsRow
@@ -96,5 +100,9 @@ pub(crate) fn elements_of(
 ) -> Result<Vec<ElementsRow>, OutOfMemory>
     ensures { IfOk result (λ rows. rows.items ≡ map element_row segments.now) }
 {
-    Ok(segments.iter().map(element_row).collect(alloc)?)
+    let mut rows = Vec::with_capacity(alloc, segments.len())?;
+    for segment in segments {
+        rows.push(element_row(segment))?;
+    }
+    Ok(rows)
 }

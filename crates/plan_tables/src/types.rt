@@ -42,10 +42,10 @@ pub(crate) fn types_record<'d>(
 fn declared_of(alloc: Global, types: &[EngineOrModuleTypeIndex]) -> Result<Vec<u32>, OutOfMemory>
     ensures { IfOk result (λ numbers. numbers.items ≡ map listed_number types.now) }
 {
-    let numbers = types
-        .iter()
-        .map(|index| listed_number(*index))
-        .collect(alloc)?;
+    let mut numbers = Vec::with_capacity(alloc, types.len())?;
+    for index in types {
+        numbers.push(listed_number(*index))?;
+    }
     Ok(numbers)
 }
 
@@ -65,20 +65,20 @@ fn groups_of(alloc: Global, types: &ModuleTypes) -> Result<Vec<NumberRange>, Out
 fn functions_of(alloc: Global, functions: &[FunctionType]) -> Result<Vec<u32>, OutOfMemory>
     ensures { IfOk result (λ numbers. numbers.items ≡ map (λ f. listed_number f.signature) functions.now) }
 {
-    let numbers = functions
-        .iter()
-        .map(|function| listed_number(function.signature))
-        .collect(alloc)?;
+    let mut numbers = Vec::with_capacity(alloc, functions.len())?;
+    for function in functions {
+        numbers.push(listed_number(function.signature))?;
+    }
     Ok(numbers)
 }
 
 fn escapes_of(alloc: Global, functions: &[FunctionType]) -> Result<Vec<u32>, OutOfMemory>
     ensures { IfOk result (λ numbers. numbers.items ≡ map (λ f. number_of f.func_ref) functions.now) }
 {
-    let numbers = functions
-        .iter()
-        .map(|function| function.func_ref.as_u32())
-        .collect(alloc)?;
+    let mut numbers = Vec::with_capacity(alloc, functions.len())?;
+    for function in functions {
+        numbers.push(function.func_ref.as_u32())?;
+    }
     Ok(numbers)
 }
 
@@ -88,9 +88,9 @@ fn signatures_of(
 ) -> Result<Vec<u32>, OutOfMemory>
     ensures { IfOk result (λ numbers. numbers.items ≡ map number_of signatures.now) }
 {
-    let numbers = signatures
-        .iter()
-        .map(|signature| signature.as_u32())
-        .collect(alloc)?;
+    let mut numbers = Vec::with_capacity(alloc, signatures.len())?;
+    for signature in signatures {
+        numbers.push(signature.as_u32())?;
+    }
     Ok(numbers)
 }
