@@ -102,6 +102,17 @@ pub fn append_operator(text: &mut Text, operator: ConstOp) -> Result<(), OutOfMe
     append_lent(text, &operator)
 }
 
+// Appends what joins two operators.
+#[inline(always)]
+fn append_joint(text: &mut Text) -> Result<(), OutOfMemory>
+    ensures { OnOk result (text.new ≡ text.old ++ codes "; ") }
+{
+    make_room(&mut text.room, text.used, 2)?;
+    let end = put_byte(&mut text.room, text.used, b';');
+    text.used = put_byte(&mut text.room, end, b' ');
+    Ok(())
+}
+
 /// Appends operators, joined by a semicolon and a space.
 ///
 /// # Errors
@@ -116,7 +127,7 @@ pub fn append_expression(text: &mut Text, expression: &ConstExpr) -> Result<(), 
     };
     append_lent(text, first)?;
     for operator in others {
-        text.push_str("; ")?;
+        append_joint(text)?;
         append_lent(text, operator)?;
     }
     Ok(())
