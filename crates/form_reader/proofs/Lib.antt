@@ -1,3 +1,4 @@
+pub mod Counting
 pub mod ContentLaws
 pub mod CustomRuns
 pub mod Digits

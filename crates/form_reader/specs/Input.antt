@@ -4,8 +4,8 @@ use Rattle.wasm_spec.specs.declared.types.UnpackedIndex.{UnpackedIndex}
 use Rattle.wasm_spec.specs.TypeData.{Group}
 use Rattle.wasm_spec.specs.Module as plain
 use Rattle.std.specs.List.{flat_map}
-use Rattle.form_data.specs.declared.form.Custom.{Custom}
-use Rattle.form_data.specs.Views.{payload_of}
+use Rattle.form_reader.specs.declared.form.Custom.{Custom}
+use Rattle.form_reader.specs.Views.{payload_of}
 use Rattle.wasm_spec.specs.declared.entities.GlobalType.{GlobalType}
 use Rattle.form_reader.specs.Reading.{Fault, Reader, ◌>>=◌, gives_at}
 use Rattle.form_reader.specs.ReadingNumbers.{unsigned_at}

@@ -1,3 +1,5 @@
+pub mod Views
+pub mod Counted
 pub mod Agrees
 pub mod ExpressionLaws
 pub mod ExpressionRows

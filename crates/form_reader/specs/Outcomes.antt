@@ -1,8 +1,8 @@
 -- How reading ends.
 use Rattle.std.specs.Prelude.{◌≡◌, Result, Ok, Err}
 use Rattle.wasm_spec.specs.Module.{Module}
-use Rattle.form_data.specs.declared.form.Form.{Form}
-use Rattle.form_data.specs.Views.{module_of}
+use Rattle.form_reader.specs.declared.form.Form.{Form}
+use Rattle.form_reader.specs.Views.{module_of}
 use Rattle.form_reader.specs.declared.input.InputForm.{InputForm}
 use Rattle.form_reader.specs.Input.{input_module_of}
 use Rattle.form_reader.specs.declared.error.ReadError.{ReadError}

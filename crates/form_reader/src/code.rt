@@ -3,14 +3,14 @@
 ghost use Rattle.std.specs.Prelude.{◌≡◌, ◌+◌, ◌<◌, ◌^◌, ℕ, length};
 ghost use Rattle.wasm_spec.specs.declared.types.ValType as declared;
 ghost use Rattle.wasm_spec.specs.Module as plain;
-ghost use Rattle.form_data.specs.Views.{body_of, payload_of};
+ghost use Rattle.form_reader.specs.Views.{body_of, payload_of};
 ghost use Rattle.form_reader.specs.Reading.{Reads};
 ghost use Rattle.form_reader.specs.SectionRows.{locals_run, body, code_at};
 
 use crate::cursor::Cursor;
 use crate::error::ReadError;
 use crate::vectors::Entry;
-use form_data::{FunctionBody, Payload};
+use crate::{FunctionBody, Payload};
 use std::alloc::Global;
 use wasm_spec::ValType;
 

@@ -3,7 +3,7 @@
 ghost use Rattle.std.specs.Prelude.{◌≡◌, ◌+◌, ◌<◌, ◌^◌, [], ◌∷◌, length, IfOk};
 ghost use Rattle.wasm_spec.specs.Grammar.{order_of as spec_order_of, section_id as spec_section_id, next_order as spec_next_order};
 ghost use Rattle.wasm_spec.specs.Module as plain;
-ghost use Rattle.form_data.specs.Views.{payload_of};
+ghost use Rattle.form_reader.specs.Views.{payload_of};
 ghost use Rattle.form_reader.specs.Input.{input_payload_of, input_section_of, HasTaken, TakesGroups};
 ghost use Rattle.form_reader.specs.Reading.{Reads, whole};
 ghost use Rattle.form_reader.specs.ReadingNumbers.{unsigned_at, sized_at};
@@ -16,7 +16,7 @@ use crate::group_takers::TakeGroups;
 use crate::input::InputEntries::{self, Elements, Functions, Globals, Segments, Tags, Types};
 use crate::input::InputSection::{self, Input, Read};
 use crate::type_indices::{DefinedFunction, DefinedTag};
-use form_data::{DataSegment, Element, Export, GlobalDef, Import, Payload, TableDef};
+use crate::{DataSegment, Element, Export, GlobalDef, Import, Payload, TableDef};
 use std::alloc::Global;
 use wasm_spec::MemoryType;
 

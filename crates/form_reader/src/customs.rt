@@ -11,10 +11,10 @@ ghost use Rattle.form_reader.specs.ReadingNumbers.{counted_bytes_at, name_at, si
 ghost use Rattle.form_reader.specs.ReadingSections.{ReadsSections};
 ghost use Rattle.form_reader.specs.SectionRows.{is_interface_name as spec_is_interface_name, custom_after_at, custom_section};
 
+use crate::Custom;
 use crate::cursor::Cursor;
 use crate::error::ReadError;
 use crate::numbers::{first_byte, u32_at};
-use form_data::Custom;
 use wasm_spec::What;
 
 /// The id of custom sections.

@@ -2,7 +2,7 @@
 
 ghost use Rattle.std.specs.Prelude.{refl};
 ghost use Rattle.wasm_spec.specs.Module as plain;
-ghost use Rattle.form_data.specs.Views.{element_kind_of, element_of};
+ghost use Rattle.form_reader.specs.Views.{element_kind_of, element_of};
 ghost use Rattle.form_reader.specs.Reading.{Reads};
 ghost use Rattle.form_reader.specs.SectionRows.{functions_as, expressions_as, after_function_kind, active_in, active_in_named, flagged_element, element_segment};
 
@@ -13,7 +13,7 @@ use crate::input_vectors::{InputEntry, InputVector};
 use crate::offsets::flagged_constant;
 use crate::type_indices::DefinedFunction;
 use crate::vectors::Index;
-use form_data::{ConstExpr, Element, ElementItems, ElementKind, Payload};
+use crate::{ConstExpr, Element, ElementItems, ElementKind, Payload};
 use std::alloc::Global;
 use wasm_spec::{AbstractHeapType, HeapType, RefType};
 

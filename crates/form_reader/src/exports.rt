@@ -1,14 +1,14 @@
 //! Exports (core specification, 5.5, export section).
 
 ghost use Rattle.wasm_spec.specs.Module as plain;
-ghost use Rattle.form_data.specs.Views.{export_of};
+ghost use Rattle.form_reader.specs.Views.{export_of};
 ghost use Rattle.form_reader.specs.Reading.{Reads};
 ghost use Rattle.form_reader.specs.SectionRows.{external_kind, export_entry};
 
+use crate::Export;
 use crate::cursor::Cursor;
 use crate::error::ReadError;
 use crate::vectors::Entry;
-use form_data::Export;
 use std::alloc::Global;
 use wasm_spec::ExternalKind;
 

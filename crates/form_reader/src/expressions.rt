@@ -1,15 +1,15 @@
 //! Constant expressions (core specification, 5.4, expressions).
 
 ghost use Rattle.wasm_spec.specs.Module as plain;
-ghost use Rattle.form_data.specs.Views.{expression_of};
+ghost use Rattle.form_reader.specs.Views.{expression_of};
 ghost use Rattle.form_reader.specs.Reading.{Reads};
 ghost use Rattle.form_reader.specs.ExpressionLaws.{expression_at};
 
+use crate::ConstExpr;
 use crate::cursor::Cursor;
 use crate::error::ReadError;
 use crate::operators::END;
 use crate::vectors::Entry;
-use form_data::ConstExpr;
 use std::alloc::Global;
 use wasm_spec::Operator;
 

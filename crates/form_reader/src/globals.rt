@@ -3,7 +3,7 @@
 ghost use Rattle.std.specs.Prelude.{[], refl};
 ghost use Rattle.wasm_spec.specs.Module as plain;
 ghost use Rattle.wasm_spec.specs.declared.entities.GlobalType as declared;
-ghost use Rattle.form_data.specs.Views.{global_of};
+ghost use Rattle.form_reader.specs.Views.{global_of};
 ghost use Rattle.form_reader.specs.SectionRows.{global_entry};
 ghost use Rattle.form_reader.specs.Input.{type_of_global_at};
 
@@ -11,7 +11,7 @@ use crate::cursor::Cursor;
 use crate::error::ReadError;
 use crate::input::InputEntries;
 use crate::input_vectors::{InputEntry, InputVector};
-use form_data::{ConstExpr, GlobalDef, Payload};
+use crate::{ConstExpr, GlobalDef, Payload};
 use std::alloc::Global;
 use wasm_spec::{GlobalType, ValType};
 

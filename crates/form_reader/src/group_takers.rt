@@ -3,16 +3,16 @@
 ghost use Rattle.std.specs.Prelude.{◌≡◌, List, [], ◌∷◌, IfOk, OnOk};
 ghost use Rattle.wasm_spec.specs.declared.types.UnpackedIndex.{UnpackedIndex};
 ghost use Rattle.wasm_spec.specs.TypeData as data_of;
-ghost use Rattle.form_data.specs.Views.{group_of};
+ghost use Rattle.form_reader.specs.Views.{group_of};
 ghost use Rattle.form_reader.specs.Input.{vector_in, HasTaken, TakesGroups};
 ghost use Rattle.form_reader.specs.Reading.{Reads, whole};
 ghost use Rattle.form_reader.specs.ReadingNumbers.{vector_at, sized_at};
 ghost use Rattle.form_reader.specs.TypeRows.{group};
 
+use crate::RecGroup;
 use crate::cursor::Cursor;
 use crate::error::ReadError;
 use crate::input_vectors::{InputEntry, InputVector};
-use form_data::RecGroup;
 use std::alloc::{AllocError, Global};
 
 /// A consumer of the groups of a module's types, one after another, as they are read.

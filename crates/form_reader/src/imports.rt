@@ -1,14 +1,14 @@
 //! Imports (core specification, 5.5, import section).
 
 ghost use Rattle.wasm_spec.specs.Module as plain;
-ghost use Rattle.form_data.specs.Views.{import_of};
+ghost use Rattle.form_reader.specs.Views.{import_of};
 ghost use Rattle.form_reader.specs.Reading.{Reads};
 ghost use Rattle.form_reader.specs.SectionRows.{imported_after, import_entry};
 
+use crate::Import;
 use crate::cursor::Cursor;
 use crate::error::ReadError;
 use crate::vectors::Entry;
-use form_data::Import;
 use std::alloc::Global;
 use wasm_spec::{TypeRef, What};
 

@@ -1,13 +1,13 @@
 //! Modules whose types, functions, tags, globals, segments and custom sections stay in the input.
 
 ghost use Rattle.std.specs.Prelude.{◌≡◌, ◌++◌, map, IfOk, OnOk};
-ghost use Rattle.form_data.specs.Views.{payload_of};
+ghost use Rattle.form_reader.specs.Views.{payload_of};
 ghost use Rattle.form_reader.specs.Input.{customs_in, input_payload_of, input_section_of, sections_of_part};
 
 use crate::customs::InputCustoms;
 use crate::input_vectors::InputVector;
 use crate::type_indices::{DefinedFunction, DefinedTag};
-use form_data::{DataSegment, Element, GlobalDef, Payload, RecGroup};
+use crate::{DataSegment, Element, GlobalDef, Payload, RecGroup};
 use std::alloc::{AllocError, Global};
 
 /// The entries of a section, which stay in the input, by its kind.

@@ -2,16 +2,16 @@
 
 ghost use Rattle.std.specs.Prelude.{◌≡◌, ◌++◌, ℕ, List, [], map, length, false, IfOk, OnOk};
 ghost use Rattle.wasm_spec.specs.Module as plain;
-ghost use Rattle.form_data.specs.Views.{payload_of};
+ghost use Rattle.form_reader.specs.Views.{payload_of};
 ghost use Rattle.form_reader.specs.Reading.{Reader, Gives, Reads, rest_at, whole};
 ghost use Rattle.form_reader.specs.ReadingNumbers.{vector_at, sized_at};
 ghost use Rattle.form_reader.specs.Input.{vector_in, input_payload_of, Takes};
 
+use crate::Payload;
 use crate::cursor::Cursor;
 use crate::error::ReadError;
 use crate::input::InputEntries;
 use crate::vectors::MOST_ROOM;
-use form_data::Payload;
 use std::alloc::{AllocError, Global};
 use std::mem;
 

@@ -7,18 +7,24 @@
 //! ```
 //! let refused = read_module(alloc, b"\0asm").err(); // Some(ReadError::Malformed)
 //! let form = read_module(alloc, bytes)?; // or Unsupported, TooLarge, OutOfMemory
-//! let sections = form.payloads.len();
+//! for payload in &form.payloads {
+//!     if let Payload::Memories(types) = payload { .. }
+//! }
+//! let functions = form.counts().functions; // imports included
 //! ```
 //!
-//! Input of 2^30 bytes or more is `TooLarge`. `read_input` leaves large sections in the input, and
-//! their entries are read again where they are iterated.
+//! A `Form` borrows the input: names, bodies and data are slices of its bytes. Input of 2^30 bytes
+//! or more is `TooLarge`. `read_input` leaves large sections in the input, and their entries are
+//! read again where they are iterated. Function bodies stay unread: `FunctionBody` has the locals,
+//! and the code as bytes.
 //!
-//! Read on: `module`, then `sections` and `vectors`; `wasm_spec` has the grammar, and `wasm_form`
-//! the public paths.
+//! Read on: `form` and `types`, then `module`, `sections` and `vectors`; `wasm_spec` has the
+//! grammar, and `wasm_form` the public paths.
 #![tactic(auto)]
 
 mod code;
 mod contents;
+mod counts;
 mod cursor;
 mod customs;
 mod elements;
@@ -27,6 +33,7 @@ mod error;
 mod exports;
 mod expressions;
 mod fields;
+mod form;
 mod frequent_globals;
 mod globals;
 mod group_takers;
@@ -46,6 +53,7 @@ mod tables;
 mod type_bytes;
 mod type_groups;
 mod type_indices;
+mod types;
 mod value_lists;
 mod value_types;
 mod vectors;
@@ -54,6 +62,10 @@ pub use contents::{next_order, order_of};
 pub use cursor::Cursor;
 pub use customs::InputCustoms;
 pub use error::ReadError;
+pub use form::{
+    ConstExpr, Counts, Custom, DataKind, DataSegment, Element, ElementItems, ElementKind, Export,
+    Form, FunctionBody, GlobalDef, Import, Payload, TableDef,
+};
 pub use globals::DefinedGlobal;
 pub use group_takers::{NoTaker, TakeGroups};
 pub use input::{InputEntries, InputForm, InputPart, InputSection};
@@ -62,4 +74,5 @@ pub use laws::spelling_is_unique;
 pub use module::{HEADER, MAX_MODULE_SIZE, read_input, read_module};
 pub use type_bytes::type_section_bytes;
 pub use type_indices::{DefinedFunction, DefinedTag};
+pub use types::{CompositeInnerType, FuncType, RecGroup, SubType};
 pub use vectors::Entry;

@@ -7,7 +7,7 @@ ghost use Rattle.wasm_spec.specs.Module.{Module, HasFewEntries, groups};
 ghost use Rattle.wasm_spec.specs.Grammar.{Spells, Stops};
 ghost use Rattle.wasm_spec.specs.Sizes.{HasShortTypes};
 ghost use Rattle.wasm_spec.specs.Interfaces.{HasNoInterfaceTypes};
-ghost use Rattle.form_data.specs.Views.{module_of, payload_of};
+ghost use Rattle.form_reader.specs.Views.{module_of, payload_of};
 ghost use Rattle.form_reader.specs.Input.{sections_of_part, input_module_of, HasTaken, TakesGroups};
 ghost use Rattle.form_reader.specs.Outcomes.{ReadsAs, ReadsInputAs};
 ghost use Rattle.form_reader.specs.Reading.{Gives};
@@ -17,7 +17,7 @@ use crate::error::ReadError;
 use crate::group_takers::{NoTaker, TakeGroups};
 use crate::input::{InputForm, InputPart};
 use crate::sections::sections;
-use form_data::{Form, Payload};
+use crate::{Form, Payload};
 use std::alloc::{AllocError, Global};
 use wasm_spec::What;
 

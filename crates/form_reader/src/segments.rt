@@ -3,7 +3,7 @@
 ghost use Rattle.std.specs.Prelude.{◌≡◌, [], ◌∷◌, refl, OnOk};
 ghost use Rattle.wasm_spec.specs.Module as plain;
 ghost use Rattle.wasm_spec.specs.declared.operators.Operator.TheVariants.{I32Const};
-ghost use Rattle.form_data.specs.Views.{data_kind_of, segment_of};
+ghost use Rattle.form_reader.specs.Views.{data_kind_of, segment_of};
 ghost use Rattle.form_reader.specs.Reading.{Reads};
 ghost use Rattle.form_reader.specs.SectionRows.{active_segment, passive_segment, flagged_segment, data_segment};
 
@@ -12,7 +12,7 @@ use crate::error::ReadError;
 use crate::input::InputEntries;
 use crate::input_vectors::{InputEntry, InputVector};
 use crate::offsets::{flagged_constant, one_operator, write_only};
-use form_data::{ConstExpr, DataKind, DataSegment, Payload};
+use crate::{ConstExpr, DataKind, DataSegment, Payload};
 use std::alloc::{AllocError, Global};
 use wasm_spec::Operator;
 

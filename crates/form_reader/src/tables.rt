@@ -1,14 +1,14 @@
 //! Tables (core specification, 5.5, table section).
 
 ghost use Rattle.wasm_spec.specs.Module as plain;
-ghost use Rattle.form_data.specs.Views.{table_of};
+ghost use Rattle.form_reader.specs.Views.{table_of};
 ghost use Rattle.form_reader.specs.Reading.{Reads};
 ghost use Rattle.form_reader.specs.SectionRows.{initialised_table, table_entry};
 
+use crate::TableDef;
 use crate::cursor::Cursor;
 use crate::error::ReadError;
 use crate::vectors::Entry;
-use form_data::TableDef;
 use std::alloc::Global;
 
 /// The byte before a table that says what its cells hold at first, and the byte after that one.

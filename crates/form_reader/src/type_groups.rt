@@ -4,7 +4,7 @@ ghost use Rattle.std.specs.Prelude.{refl};
 ghost use Rattle.wasm_spec.specs.declared.types.UnpackedIndex.{UnpackedIndex};
 ghost use Rattle.wasm_spec.specs.Module as plain;
 ghost use Rattle.wasm_spec.specs.TypeData as data_of;
-ghost use Rattle.form_data.specs.Views.{composite_of, sub_type_of, group_of};
+ghost use Rattle.form_reader.specs.Views.{composite_of, sub_type_of, group_of};
 ghost use Rattle.form_reader.specs.Reading.{Reads, first_byte_at};
 ghost use Rattle.form_reader.specs.Rows.{first_byte};
 ghost use Rattle.form_reader.specs.ReadingNumbers.{vector_at};
@@ -16,7 +16,7 @@ use crate::input::InputEntries;
 use crate::input_vectors::{InputEntry, InputVector};
 use crate::value_types::{FIRST_NUMBER_TYPE, SHARED};
 use crate::vectors::Entry;
-use form_data::{CompositeInnerType, FuncType, Payload, RecGroup, SubType};
+use crate::{CompositeInnerType, FuncType, Payload, RecGroup, SubType};
 use std::alloc::Global;
 use wasm_spec::{FieldType, UnpackedIndex, ValType, What};
 

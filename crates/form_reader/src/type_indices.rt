@@ -6,11 +6,11 @@ ghost use Rattle.wasm_spec.specs.Module as plain;
 ghost use Rattle.form_reader.specs.ReadingNumbers.{unsigned_at};
 ghost use Rattle.form_reader.specs.TypeRows.{tag_type};
 
+use crate::Payload;
 use crate::cursor::Cursor;
 use crate::error::ReadError;
 use crate::input::InputEntries;
 use crate::input_vectors::{InputEntry, InputVector};
-use form_data::Payload;
 use std::alloc::Global;
 
 /// The entries of the function section.

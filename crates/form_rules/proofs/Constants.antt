@@ -9,7 +9,7 @@ use Rattle.rule_spec.specs.Lists.{Lists}
 use Rattle.rule_spec.specs.References.{OperatorRefersIn}
 use Rattle.rule_spec.specs.Typing.{HasClass}
 use Rattle.rule_spec.proofs.Stepping.{has_class}
-use Rattle.form_typing.proofs.Leading.{one_leads}
+use Rattle.form_rules.proofs.Leading.{one_leads}
 
 -- such an expression has the class i32
 pub constant_typed : (l : Lists) (visible : List GlobalType) (value : ℤ) (ops : List Operator) → ops ≡ I32Const value ∷ [] → HasClass l visible ops I32

@@ -5,7 +5,7 @@ use Rattle.wasm_spec.specs.Module.{GlobalDef}
 use Rattle.rule_spec.specs.Lists.{Lists}
 use Rattle.rule_spec.specs.Expressions.{AreGlobalsTyped}
 use Rattle.form_reader.specs.Input.{Takes}
-use Rattle.form_typing.specs.Globals.{IsGlobalTyped}
+use Rattle.form_rules.specs.Globals.{IsGlobalTyped}
 
 -- a law of the first entry and of the others: it holds of none, and of an entry and others where it
 -- holds of both

@@ -6,7 +6,7 @@ use Rattle.rule_spec.specs.Rules.{AreDistinct}
 use Rattle.rule_spec.specs.Expressions.{AreGlobalsTyped, HasMemoryOffset, IsElementTyped}
 use Rattle.rule_spec.specs.Indices.{IsElementInRange, NamesMemory}
 use Rattle.rule_spec.specs.References.{DataKindRefersIn, ElementRefersIn, GlobalRefersIn}
-use Rattle.form_typing.specs.Globals.{IsGlobalTyped}
+use Rattle.form_rules.specs.Globals.{IsGlobalTyped}
 use Rattle.form_rules.specs.declared.elements.ElementsKeep.{ElementsKeep}
 use Rattle.form_rules.specs.declared.globals.GlobalsKeep.{GlobalsKeep}
 use Rattle.form_rules.specs.declared.segments.SegmentsKeep.{SegmentsKeep}

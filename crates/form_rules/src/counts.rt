@@ -3,13 +3,13 @@
 ghost use Rattle.std.specs.Prelude.{◌≡◌, ◌↔◌, ◌+◌, ◌≤◌, length, sum_by, All, IsTrue};
 ghost use Rattle.std.specs.List.{flat_map};
 ghost use Rattle.wasm_spec.specs.Module.{bodies_of_section, data_counts_of_section, segments};
-ghost use Rattle.form_data.specs.Views.{body_of};
+ghost use Rattle.form_reader.specs.Views.{body_of};
 ghost use Rattle.rule_spec.specs.Rules.{CountsAgree, locals};
-ghost use Rattle.form_lists.specs.Source.{source_module, sections_in};
-ghost use Rattle.form_lists.specs.Views.{lists_of};
+ghost use Rattle.form_rules.specs.Source.{source_module, sections_in};
+ghost use Rattle.form_rules.specs.Views.{lists_of};
 
-use form_data::{FunctionBody, Payload};
-use form_lists::{Lists, Section, Source, count_entries, entries_of, sections_of};
+use crate::{Lists, Section, Source, count_entries, entries_of, sections_of};
+use form_reader::{FunctionBody, Payload};
 use wasm_spec::ValType;
 
 /// Whether bodies, data segments and locals are as many as is declared or allowed. There are

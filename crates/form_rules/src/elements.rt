@@ -2,16 +2,15 @@
 //! segment again that stays in the input.
 
 ghost use Rattle.std.specs.Prelude.{◌↔◌, IsTrue, IfOk};
-ghost use Rattle.form_data.specs.Views.{element_of};
-ghost use Rattle.form_lists.specs.Views.{lists_of};
+ghost use Rattle.form_reader.specs.Views.{element_of};
+ghost use Rattle.form_rules.specs.Views.{lists_of};
 ghost use Rattle.form_rules.specs.Walked.{AreElementsWalked, IsElementAdded};
 
 use crate::indices::{element_is_in_range, names_functions};
 use crate::plain::is_plain_element;
 use crate::references::element_refers;
-use form_data::Element;
-use form_lists::walk_of;
-use form_typing::{Typing, element_is_typed};
+use crate::{Typing, element_is_typed, walk_of};
+use form_reader::Element;
 use rule_spec::Class;
 use std::alloc::{AllocError, Global};
 

@@ -3,14 +3,14 @@
 ghost use Rattle.std.specs.Prelude.{◌≡◌, ◌↔◌, All, IsTrue};
 ghost use Rattle.std.specs.List.{flat_map};
 ghost use Rattle.wasm_spec.specs.Module.{exports_of_section};
-ghost use Rattle.form_data.specs.Views.{export_of};
+ghost use Rattle.form_reader.specs.Views.{export_of};
 ghost use Rattle.rule_spec.specs.Indices.{IsInSpace, space_size};
 ghost use Rattle.rule_spec.specs.Rules.{AreExported, AreDistinct};
-ghost use Rattle.form_lists.specs.Source.{source_module};
-ghost use Rattle.form_lists.specs.Views.{lists_of};
+ghost use Rattle.form_rules.specs.Source.{source_module};
+ghost use Rattle.form_rules.specs.Views.{lists_of};
 
-use form_data::Export;
-use form_lists::{Lists, entries_of};
+use crate::{Lists, entries_of};
+use form_reader::Export;
 use wasm_spec::ExternalKind;
 
 /// Whether each export names an entry of its index space, and no two have one name, which was

@@ -2,15 +2,14 @@
 //! again that stays in the input.
 
 ghost use Rattle.std.specs.Prelude.{◌↔◌, ◌≤◌, length, IsTrue, IfOk};
-ghost use Rattle.form_data.specs.Views.{global_of};
-ghost use Rattle.form_lists.specs.Views.{lists_of};
+ghost use Rattle.form_reader.specs.Views.{global_of};
+ghost use Rattle.form_rules.specs.Views.{lists_of};
 ghost use Rattle.form_rules.specs.Outcomes.{HasGlobals};
 ghost use Rattle.form_rules.specs.Walked.{AreGlobalsWalked, IsGlobalAdded};
 
 use crate::references::global_refers;
-use form_data::GlobalDef;
-use form_lists::walk_of;
-use form_typing::{Typing, global_is_typed};
+use crate::{Typing, global_is_typed, walk_of};
+use form_reader::GlobalDef;
 use rule_spec::Class;
 use std::alloc::{AllocError, Global};
 

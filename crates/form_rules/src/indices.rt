@@ -1,12 +1,12 @@
 //! Indices of segments (core specification, 3.5, element and data segments).
 
 ghost use Rattle.std.specs.Prelude.{◌↔◌, ◌<◌, All, IsTrue};
-ghost use Rattle.form_data.specs.Views.{element_of, element_kind_of, items_of, data_kind_of};
+ghost use Rattle.form_reader.specs.Views.{element_of, element_kind_of, items_of, data_kind_of};
 ghost use Rattle.rule_spec.specs.Indices.{NamesMemory, NamesTable, NamesFunctions, IsElementInRange};
-ghost use Rattle.form_lists.specs.Views.{lists_of};
+ghost use Rattle.form_rules.specs.Views.{lists_of};
 
-use form_data::{DataKind, Element, ElementItems, ElementKind};
-use form_lists::Lists;
+use crate::Lists;
+use form_reader::{DataKind, Element, ElementItems, ElementKind};
 
 /// Whether the table and the functions that an element segment names exist.
 pub fn element_is_in_range(lists: &Lists<'_, '_>, element: &Element) -> bool

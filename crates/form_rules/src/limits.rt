@@ -3,9 +3,9 @@
 ghost use Rattle.std.specs.Prelude.{◌≡◌, ◌↔◌, ◌*◌, ◌^◌, ◌≤◌, All, IsTrue};
 ghost use Rattle.rule_spec.specs.Limits.{HasLimits, IsOrdered, address_space};
 ghost use Rattle.rule_spec.specs.Rules.{HaveLimits};
-ghost use Rattle.form_lists.specs.Views.{lists_of};
+ghost use Rattle.form_rules.specs.Views.{lists_of};
 
-use form_lists::Lists;
+use crate::Lists;
 use wasm_spec::{MemoryType, TableType};
 
 /// The page size of a memory type that names none, as an exponent of 2.

@@ -8,12 +8,12 @@ ghost use Rattle.wasm_spec.specs.Module as plain;
 ghost use Rattle.wasm_spec.specs.Module.{exports_of_section};
 ghost use Rattle.entity_map.specs.Pool.{with_text};
 ghost use Rattle.rule_spec.specs.Rules.{AreDistinct};
-ghost use Rattle.form_lists.specs.Source.{source_module};
+ghost use Rattle.form_rules.specs.Source.{source_module};
 ghost use Rattle.form_rules.specs.Names.{imported_names, exported_names};
 
+use crate::{Source, count_entries, entries_of};
 use entity_map::{NameDigest, OutOfMemory, StringPool};
-use form_data::{Export, Import};
-use form_lists::{Source, count_entries, entries_of};
+use form_reader::{Export, Import};
 use std::alloc::Global;
 
 /// The number of module names for which a pool has capacity: most modules import from few.

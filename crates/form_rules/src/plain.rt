@@ -2,18 +2,17 @@
 
 ghost use Rattle.std.specs.Prelude.{ℕ, List, IsTrue};
 ghost use Rattle.wasm_spec.specs.declared.entities.GlobalType.{GlobalType};
-ghost use Rattle.form_data.specs.Views.{element_of, element_kind_of, items_of, expression_of, data_kind_of};
+ghost use Rattle.form_reader.specs.Views.{element_of, element_kind_of, items_of, expression_of, data_kind_of};
 ghost use Rattle.rule_spec.specs.declared.classes.Class.TheVariants.{I32};
 ghost use Rattle.rule_spec.specs.Lists as rule;
 ghost use Rattle.rule_spec.specs.Typing.{HasClass};
 ghost use Rattle.rule_spec.specs.Expressions.{HasMemoryOffset, HasTableOffset, HasTypedItems, IsElementTyped};
 ghost use Rattle.rule_spec.specs.Indices.{NamesMemory, NamesTable};
 ghost use Rattle.rule_spec.specs.References.{DataKindRefersIn, ElementKindRefersIn, ElementRefersIn, ExpressionRefersIn, ItemsReferIn};
-ghost use Rattle.form_lists.specs.Views.{lists_of};
+ghost use Rattle.form_rules.specs.Views.{lists_of};
 
-use form_data::{ConstExpr, DataKind, Element, ElementItems, ElementKind};
-use form_lists::Lists;
-use form_typing::one_i32;
+use crate::{Lists, one_i32};
+use form_reader::{ConstExpr, DataKind, Element, ElementItems, ElementKind};
 
 /// Whether the expression is one `i32.const`.
 #[inline(always)]

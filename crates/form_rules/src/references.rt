@@ -4,16 +4,16 @@ ghost use Rattle.std.specs.Prelude.{◌↔◌, map, length, All, IsTrue};
 ghost use Rattle.std.specs.List.{flat_map};
 ghost use Rattle.wasm_spec.specs.TypeData.{heap_of};
 ghost use Rattle.wasm_spec.specs.Module.{imports, segments, tables_of_section, globals_of_section, elements_of_section, bodies_of_section};
-ghost use Rattle.form_data.specs.Views.{table_of, global_of, element_of, element_kind_of, items_of, body_of, data_kind_of, expression_of};
+ghost use Rattle.form_reader.specs.Views.{table_of, global_of, element_of, element_kind_of, items_of, body_of, data_kind_of, expression_of};
 ghost use Rattle.rule_spec.specs.References.{RefersIn, ValueRefersIn, ImportRefersIn, OperatorRefersIn, ExpressionRefersIn, TableRefersIn, GlobalRefersIn, ElementKindRefersIn, ItemsReferIn, ElementRefersIn, BodyRefersIn, DataKindRefersIn, AllReferIn};
-ghost use Rattle.form_lists.specs.Source.{source_module};
-ghost use Rattle.form_lists.specs.Views.{lists_of};
+ghost use Rattle.form_rules.specs.Source.{source_module};
+ghost use Rattle.form_rules.specs.Views.{lists_of};
 
-use form_data::{
+use crate::{Lists, entries_of};
+use form_reader::{
     ConstExpr, DataKind, Element, ElementItems, ElementKind, FunctionBody, GlobalDef, Import,
     TableDef,
 };
-use form_lists::{Lists, entries_of};
 use form_types::{heap_is_below, value_is_below};
 use wasm_spec::{Operator, TypeRef};
 

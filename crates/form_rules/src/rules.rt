@@ -2,12 +2,12 @@
 
 ghost use Rattle.std.specs.Prelude.{◌≡◌, ◌↔◌, IsTrue, IfOk, OnOk, Err};
 ghost use Rattle.rule_spec.specs.declared.rules.Rule.{Rule};
-ghost use Rattle.form_data.specs.Views.{module_of};
+ghost use Rattle.form_reader.specs.Views.{module_of};
 ghost use Rattle.rule_spec.specs.Lists.{lists_of_module};
 ghost use Rattle.rule_spec.specs.Rules.{Satisfies, Keeps, KeepsBefore};
 ghost use Rattle.form_types.specs.Numbered.{AreNumbered};
-ghost use Rattle.form_lists.specs.Source.{source_module};
-ghost use Rattle.form_lists.specs.Views.{lists_of};
+ghost use Rattle.form_rules.specs.Source.{source_module};
+ghost use Rattle.form_rules.specs.Views.{lists_of};
 ghost use Rattle.form_rules.specs.Walked.{AreAsked};
 ghost use Rattle.form_rules.specs.Names.{exported_names};
 ghost use Rattle.form_rules.specs.Outcomes.{ChecksOrNoMemory, HasGlobals};
@@ -24,11 +24,13 @@ use crate::segments::{SegmentsKeep, walk_segments};
 use crate::start::starts_hold;
 use crate::tables::initialisers_hold;
 use crate::type_rules::types_are_named;
+use crate::{
+    DeclaredTypes, KindsTyped, Lists, Source, Typing, expressions_hold, gather_lists,
+    struct_defaults,
+};
 use entity_map::StringPool;
-use form_data::Form;
-use form_lists::{DeclaredTypes, Lists, Source, gather_lists};
+use form_reader::Form;
 use form_types::{Types, Validator, numbering_of_form};
-use form_typing::{KindsTyped, Typing, expressions_hold, struct_defaults};
 use rule_spec::Rule;
 use std::alloc::{AllocError, Global};
 

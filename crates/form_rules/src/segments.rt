@@ -1,16 +1,15 @@
 //! What the rules require of data segments. One walk checks all rules, as for element segments.
 
 ghost use Rattle.std.specs.Prelude.{◌≡◌, ◌↔◌, ◌+◌, IsTrue, IfOk};
-ghost use Rattle.form_data.specs.Views.{segment_of};
-ghost use Rattle.form_lists.specs.Views.{lists_of};
+ghost use Rattle.form_reader.specs.Views.{segment_of};
+ghost use Rattle.form_rules.specs.Views.{lists_of};
 ghost use Rattle.form_rules.specs.Walked.{AreSegmentsWalked, IsSegmentAdded};
 
 use crate::indices::names_memory;
 use crate::plain::is_plain_segment;
 use crate::references::data_kind_refers;
-use form_data::DataSegment;
-use form_lists::walk_of;
-use form_typing::{Typing, segment_is_typed};
+use crate::{Typing, segment_is_typed, walk_of};
+use form_reader::DataSegment;
 use rule_spec::Class;
 use std::alloc::{AllocError, Global};
 

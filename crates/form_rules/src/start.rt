@@ -3,14 +3,14 @@
 ghost use Rattle.std.specs.Prelude.{◌↔◌, All, IsTrue, IsSomeAnd};
 ghost use Rattle.std.specs.List.{flat_map};
 ghost use Rattle.wasm_spec.specs.Module.{starts_of_section};
-ghost use Rattle.form_data.specs.Views.{composite_of};
+ghost use Rattle.form_reader.specs.Views.{composite_of};
 ghost use Rattle.rule_spec.specs.Lists.{kind_at};
 ghost use Rattle.rule_spec.specs.Indices.{TakesAndGivesNothing, CanStart};
-ghost use Rattle.form_lists.specs.Source.{source_module, sections_in};
-ghost use Rattle.form_lists.specs.Views.{lists_of};
+ghost use Rattle.form_rules.specs.Source.{source_module, sections_in};
+ghost use Rattle.form_rules.specs.Views.{lists_of};
 
-use form_data::{CompositeInnerType, Payload};
-use form_lists::{Lists, Section, sections_of};
+use crate::{Lists, Section, sections_of};
+use form_reader::{CompositeInnerType, Payload};
 
 /// Whether the start function, where there is one, can start.
 pub fn starts_hold(lists: &Lists<'_, '_>) -> bool

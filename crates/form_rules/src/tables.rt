@@ -3,12 +3,12 @@
 ghost use Rattle.std.specs.Prelude.{◌↔◌, All, IsTrue};
 ghost use Rattle.std.specs.List.{flat_map};
 ghost use Rattle.wasm_spec.specs.Module.{tables_of_section};
-ghost use Rattle.form_data.specs.Views.{table_of};
+ghost use Rattle.form_reader.specs.Views.{table_of};
 ghost use Rattle.rule_spec.specs.Rules.{IsInitialised};
-ghost use Rattle.form_lists.specs.Source.{source_module};
+ghost use Rattle.form_rules.specs.Source.{source_module};
 
-use form_data::TableDef;
-use form_lists::{Lists, entries_of};
+use crate::{Lists, entries_of};
+use form_reader::TableDef;
 
 /// Whether each defined table whose cells cannot be null says what they hold at first.
 pub fn initialisers_hold(lists: &Lists<'_, '_>) -> bool

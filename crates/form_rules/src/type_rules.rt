@@ -3,10 +3,10 @@
 ghost use Rattle.std.specs.Prelude.{◌↔◌, All, IsTrue, IfOk};
 ghost use Rattle.rule_spec.specs.TypeRules.{NamesFunctionType};
 ghost use Rattle.rule_spec.specs.Rules.{TypesAreNamed};
-ghost use Rattle.form_lists.specs.Views.{lists_of};
+ghost use Rattle.form_rules.specs.Views.{lists_of};
 ghost use Rattle.form_rules.specs.Known.{AreKnown};
 
-use form_lists::Lists;
+use crate::Lists;
 use form_types::is_function;
 use std::alloc::{AllocError, Global};
 

@@ -6,7 +6,7 @@ use Rattle.std.proofs.lemmas.List.Concat.{get_or-flat_map}
 use Rattle.wasm_spec.specs.declared.types.UnpackedIndex.{UnpackedIndex}
 use Rattle.wasm_spec.specs.TypeData.{Group, SubType, map_sub_type}
 use Rattle.wasm_spec.specs.Module as plain
-use Rattle.type_data.specs.TypeShapes.{sub_type_shape}
+use Rattle.type_spec.specs.TypeShapes.{sub_type_shape}
 use Rattle.type_spec.specs.Equality.{home}
 use Rattle.type_spec.proofs.Homes.{size, home-within, home-type}
 use Rattle.type_spec.proofs.Numbers.{place}

@@ -5,11 +5,11 @@ use Rattle.std.specs.List.{range_with_len}
 use Rattle.std.proofs.lemmas.List.{length-map, map-append, get_or_append_left, get_or-append-add}
 use Rattle.std.proofs.lemmas.List.FromFn.{get_or-range_with_len, length-range_with_len}
 use Rattle.wasm_spec.specs.TypeData.{Group, map_group}
-use Rattle.type_data.specs.TypeShapes.{group_shape}
-use Rattle.type_data.specs.Names.{plainly}
+use Rattle.type_spec.specs.TypeShapes.{group_shape}
+use Rattle.type_spec.specs.Names.{plainly}
 use Rattle.type_spec.specs.Equality.{canonical}
 use Rattle.type_spec.proofs.Homes.{size, size-more}
-use Rattle.form_data.specs.Views.{group_of}
+use Rattle.form_reader.specs.Views.{group_of}
 use Rattle.form_types.specs.declared.numbering.Numbering.{Numbering}
 use Rattle.form_types.specs.declared.canonical.CanonicalGroup.{CanonicalGroup}
 use Rattle.form_types.specs.contracts.canonical.CanonicalGroupPartialEq.TheImpl as group

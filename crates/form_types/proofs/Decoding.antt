@@ -6,7 +6,7 @@ use Rattle.std.specs.Option.{option_map}
 use Rattle.std.specs.List.{flat_map}
 use Rattle.std.proofs.lemmas.List.Folds.{flat_map-map}
 use Rattle.wasm_spec.specs.TypeData.{Heap, Concrete, Abstract, Value, I32, I64, F32, F64, V128, Ref, Storage, I8, I16, Val, Field, Function, Composite, Func, Array, Struct, Cont, Exn, SubType, Group, map_heap, map_value, map_storage, map_field, map_composite, map_sub_type, map_group}
-use Rattle.type_data.specs.ListLaws.{map-twice}
+use Rattle.type_spec.specs.ListLaws.{map-twice}
 use Rattle.type_spec.specs.Same.{Gap}
 use Rattle.type_spec.specs.Tests.{byte_heap, byte-back}
 use Rattle.form_types.specs.Codes.{flag, ended, heap_code, value_code, storage_code, field_codes, function_codes, fields_codes, composite_codes, sub_type_codes, group_codes}

@@ -17,7 +17,7 @@ use Rattle.type_spec.proofs.Numbers.{exact}
 use Rattle.rule_spec.specs.Lists.{Declared, Lists, declared_from, declared_groups, lists_of_module, kind_at}
 use Rattle.rule_spec.specs.TypeRules.{IsFunction, KindIsBelow, NamesFunctionType, IsDeclaredWell}
 use Rattle.rule_spec.specs.TypeRules as rule
-use Rattle.form_data.specs.Views.{group_of}
+use Rattle.form_reader.specs.Views.{group_of}
 use Rattle.form_types.specs.declared.numbering.Numbering.{Numbering}
 use Rattle.form_types.specs.Types.{NamedGroup, TypesData, types_by_id, NamesFunction, CompositeContinues, ContinuesFunction, IsSound}
 use Rattle.form_types.specs.EarlierTypes.{ids_of}

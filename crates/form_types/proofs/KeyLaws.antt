@@ -13,10 +13,10 @@ use Rattle.std.specs.Prelude.{slice_index}
 use Rattle.wasm_spec.specs.TypeData.{Group, map_group, group_edges}
 use Rattle.form_types.specs.Types.{NamedGroup}
 use Rattle.form_types.specs.Placed.{place_of, placed}
-use Rattle.type_data.specs.Shapes.{erased}
-use Rattle.type_data.specs.TypeShapes.{group_shape}
-use Rattle.type_data.specs.Names.{plainly}
-use Rattle.type_data.specs.ListLaws.{map-same, map-twice}
+use Rattle.type_spec.specs.Shapes.{erased}
+use Rattle.type_spec.specs.TypeShapes.{group_shape}
+use Rattle.type_spec.specs.Names.{plainly}
+use Rattle.type_spec.specs.ListLaws.{map-same, map-twice}
 use Rattle.type_spec.specs.Equality.{Target, Inside, Earlier, target, canonical}
 use Rattle.type_spec.specs.Tests.{all-decide}
 use Rattle.form_types.specs.declared.canonical.CanonicalGroup.{CanonicalGroup}

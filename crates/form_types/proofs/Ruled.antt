@@ -8,8 +8,8 @@ use Rattle.std.proofs.lemmas.List.Elements.{All-nil, All-cons, All-head, All-tai
 use Rattle.wasm_spec.specs.declared.types.UnpackedIndex.{UnpackedIndex}
 use Rattle.wasm_spec.specs.declared.types.UnpackedIndex.TheVariants.{Module}
 use Rattle.wasm_spec.specs.TypeData.{Composite, sub_type_edges, group_edges, composite_edges, map_sub_type}
-use Rattle.type_data.specs.TypeShapes.{group_shape}
-use Rattle.type_data.specs.Names.{plainly}
+use Rattle.type_spec.specs.TypeShapes.{group_shape}
+use Rattle.type_spec.specs.Names.{plainly}
 use Rattle.type_spec.proofs.Homes.{joined, size}
 use Rattle.rule_spec.specs.Lists.{Declared, declared_from, declared_groups}
 use Rattle.rule_spec.specs.TypeRules.{IsBelow, KindIsBelow}

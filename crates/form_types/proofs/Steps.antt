@@ -11,8 +11,8 @@ use Rattle.std.proofs.lemmas.List.Quantifiers.{all_pairs_push}
 use Rattle.wasm_spec.specs.declared.types.UnpackedIndex.{UnpackedIndex}
 use Rattle.wasm_spec.specs.declared.types.UnpackedIndex.TheVariants.{Id}
 use Rattle.wasm_spec.specs.TypeData.{Group, map_group, group_edges}
-use Rattle.type_data.specs.TypeShapes.{group_shape}
-use Rattle.type_data.specs.Names.{plainly, alike-mapped}
+use Rattle.type_spec.specs.TypeShapes.{group_shape}
+use Rattle.type_spec.specs.Names.{plainly, alike-mapped}
 use Rattle.type_spec.specs.Equality.{Earlier, target, target_by, Home, home, canonical}
 use Rattle.type_spec.proofs.ByNames.{zip-known-itself}
 use Rattle.type_spec.proofs.Homes.{size, Holds, home-within, home-again, home-before, home-last, size-more}

@@ -6,9 +6,9 @@ use Rattle.std.proofs.lemmas.List.Elements.{All-nil, All-append}
 use Rattle.wasm_spec.specs.Sizes.{HasShortLists}
 use Rattle.wasm_spec.specs.declared.types.CoreTypeId.{CoreTypeId}
 use Rattle.rule_spec.specs.Lists.{declared_from, declared_groups}
-use Rattle.form_data.specs.declared.types.RecGroup.{RecGroup}
-use Rattle.form_data.specs.declared.types.SubType.{SubType}
-use Rattle.form_data.specs.Views.{group_of, sub_type_of}
+use Rattle.form_reader.specs.declared.types.RecGroup.{RecGroup}
+use Rattle.form_reader.specs.declared.types.SubType.{SubType}
+use Rattle.form_reader.specs.Views.{group_of, sub_type_of}
 use Rattle.form_types.specs.declared.canonical.CanonicalGroup.{CanonicalGroup}
 use Rattle.form_types.specs.declared.numbering.Numbering.{Numbering}
 use Rattle.form_types.specs.Types.{NamedGroup, types_by_id}

@@ -1,6 +1,6 @@
 -- The distinct groups.
 use Rattle.std.specs.Prelude.{◌≡◌, ◌≤◌, ℕ, ◌+◌, List, [], ◌∷◌, length, map}
-use Rattle.form_data.specs.Views.{group_of}
+use Rattle.form_reader.specs.Views.{group_of}
 use Rattle.form_types.specs.Types.{NamedGroup, types_by_id, group_numbers}
 use Rattle.form_types.specs.declared.distinct.Distinct.{Distinct}
 

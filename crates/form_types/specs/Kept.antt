@@ -1,7 +1,7 @@
 -- What a list of types keeps.
 use Rattle.std.specs.Prelude.{◌^◌, ◌<◌, List, length, map}
 use Rattle.wasm_spec.specs.declared.types.CoreTypeId.{CoreTypeId}
-use Rattle.form_data.specs.Views.{group_of}
+use Rattle.form_reader.specs.Views.{group_of}
 use Rattle.form_types.specs.declared.validator.ValidatorId.{ValidatorId}
 use Rattle.form_types.specs.declared.distinct.Distinct.{Distinct}
 use Rattle.form_types.specs.Distinct.{IsListed}

@@ -7,7 +7,7 @@ use Rattle.wasm_spec.specs.TypeData.{Group, SubType, map_group, group_edges}
 use Rattle.wasm_spec.specs.Sizes.{HasShortLists}
 use Rattle.rule_spec.specs.Lists.{declared_groups}
 use Rattle.type_spec.specs.Equality.{Target, Inside, Earlier, Home, home, canonical}
-use Rattle.form_data.specs.Views.{group_of}
+use Rattle.form_reader.specs.Views.{group_of}
 use Rattle.form_types.specs.declared.numbering.Numbering.{Numbering}
 use Rattle.form_types.specs.declared.canonical.CanonicalGroup.{CanonicalGroup}
 use Rattle.form_types.specs.Ids.{id_of}

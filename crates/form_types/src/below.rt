@@ -1,13 +1,13 @@
 //! Types whose indices are below a bound (core specification, 3.2, recursive types).
 
 ghost use Rattle.std.specs.Prelude.{◌≡◌, ◌↔◌, ◌+◌, ◌<◌, ◌^◌, map, length, All, IsTrue, IfSome};
-ghost use Rattle.form_data.specs.Views.{function_of, composite_of, sub_type_of};
+ghost use Rattle.form_reader.specs.Views.{function_of, composite_of, sub_type_of};
 ghost use Rattle.wasm_spec.specs.TypeData.{Func, heap_of, value_of, storage_of, field_of, group_edges};
 ghost use Rattle.rule_spec.specs.Lists.{declared_from};
 ghost use Rattle.rule_spec.specs.TypeRules.{IsBelow, HeapIsBelow, ValueIsBelow, KindIsBelow};
 ghost use Rattle.form_types.specs.Below.{StorageIsBelow, FieldIsBelow, HasSupertypeBelow, NamesBelow};
 
-use form_data::{CompositeInnerType, FuncType, SubType};
+use form_reader::{CompositeInnerType, FuncType, SubType};
 use wasm_spec::{FieldType, HeapType, StorageType, UnpackedIndex, ValType};
 
 /// Whether the index is below a bound.

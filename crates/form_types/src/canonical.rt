@@ -4,7 +4,7 @@ ghost use Rattle.std.specs.Prelude.{◌≡◌, ◌+◌, ◌<◌, ◌≤◌, [], 
 ghost use Rattle.std.specs.List.{flat_map};
 ghost use Rattle.std.specs.Option.{option_to_list};
 ghost use Rattle.wasm_spec.specs.TypeData.{heap_of, reference_of, value_of, storage_of, field_of, value_edges, storage_edges, field_edges, function_edges, composite_edges, reference_edges, sub_type_edges, group_edges};
-ghost use Rattle.form_data.specs.Views.{function_of, composite_of, sub_type_of};
+ghost use Rattle.form_reader.specs.Views.{function_of, composite_of, sub_type_of};
 ghost use Rattle.form_types.specs.Codes.{ended, value_code, storage_code, field_codes, function_codes, fields_codes, composite_codes, reference_code, head_codes, sub_type_codes, group_codes};
 ghost use Rattle.std.specs.Cmp.Lexicographic.{bytes_decides};
 ghost use Rattle.std.specs.Hash as fed;
@@ -13,7 +13,7 @@ ghost use Rattle.wasm_spec.specs.contracts.types.UnpackedIndexHash.TheImpl.Laws 
 ghost use Rattle.form_types.specs.Keys.{key_of, Adds};
 
 use crate::codes::{END, I32, below_i32, flag, named_by, storage_code, value_code};
-use form_data::{CompositeInnerType, FuncType, SubType};
+use form_reader::{CompositeInnerType, FuncType, SubType};
 use std::alloc::{AllocError, Global};
 use std::hash::{Hash, Hasher};
 use wasm_spec::{FieldType, HeapType, StorageType, UnpackedIndex, ValType};

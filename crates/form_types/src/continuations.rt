@@ -1,13 +1,13 @@
 //! What continuations name (core specification, 3.2, composite types).
 
 ghost use Rattle.std.specs.Prelude.{◌↔◌, map, All, IsTrue};
-ghost use Rattle.form_data.specs.Views.{composite_of, sub_type_of, group_of};
+ghost use Rattle.form_reader.specs.Views.{composite_of, sub_type_of, group_of};
 ghost use Rattle.rule_spec.specs.TypeRules.{IsFunction};
 ghost use Rattle.form_types.specs.Distinct.{IsListed};
 ghost use Rattle.form_types.specs.Types.{types_by_id, NamesFunction, CompositeContinues, ContinuesFunction};
 
 use crate::distinct::Distinct;
-use form_data::{CompositeInnerType, SubType};
+use form_reader::{CompositeInnerType, SubType};
 use wasm_spec::UnpackedIndex;
 
 /// Whether a composite type is a function type.

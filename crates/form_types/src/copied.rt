@@ -2,13 +2,12 @@
 
 ghost use Rattle.std.specs.Prelude.{◌≡◌, map, IfOk, OnOk};
 ghost use Rattle.wasm_spec.specs.Module.{groups};
-ghost use Rattle.form_data.specs.Views.{composite_of, sub_type_of, group_of, module_of};
+ghost use Rattle.form_reader.specs.Views.{composite_of, sub_type_of, group_of, module_of};
 ghost use Rattle.form_reader.specs.Input.{HasTaken, TakesGroups};
 ghost use Rattle.form_types.specs.Taken.{Took};
 
 use crate::numbering::Numbering;
-use form_data::{CompositeInnerType, Form, FuncType, RecGroup, SubType};
-use form_reader::{InputEntry, TakeGroups};
+use form_reader::{CompositeInnerType, Form, FuncType, InputEntry, RecGroup, SubType, TakeGroups};
 use std::alloc::{AllocError, Global};
 
 fn copied_composite(

@@ -1,11 +1,11 @@
 //! The distinct groups, and look-ups in them.
 
 ghost use Rattle.std.specs.Prelude.{◌≡◌, ◌+◌, ◌<◌, ◌^◌, ◌++◌, ◌∷◌, [], length, map, slice_get, Some, OnOk};
-ghost use Rattle.form_data.specs.Views.{group_of, sub_type_of};
+ghost use Rattle.form_reader.specs.Views.{group_of, sub_type_of};
 ghost use Rattle.form_types.specs.Distinct.{IsListed};
 ghost use Rattle.form_types.specs.Types.{types_by_id};
 
-use form_data::{RecGroup, SubType};
+use form_reader::{RecGroup, SubType};
 use std::alloc::{AllocError, Global};
 use wasm_spec::CoreTypeId;
 

@@ -4,7 +4,7 @@ ghost use Rattle.std.specs.Prelude.{◌≡◌, ◌+◌, ◌<◌, ◌^◌, ◌++�
 ghost use Rattle.std.specs.Hash.DefaultHasher as sip;
 ghost use Rattle.std.specs.List.{range_with_len, fold};
 ghost use Rattle.form_reader.specs.TypeBytes.{type_bytes};
-ghost use Rattle.form_data.specs.Views.{sub_type_of};
+ghost use Rattle.form_reader.specs.Views.{sub_type_of};
 ghost use Rattle.form_types.specs.Types.{NamedGroup};
 ghost use Rattle.form_types.specs.EarlierTypes.{ids_of};
 ghost use Rattle.form_types.specs.Placed.{placed};
@@ -14,8 +14,7 @@ ghost use Rattle.form_types.specs.Finding.{first_of, next_key};
 use crate::canonical::CanonicalGroup;
 use crate::earlier_types::EarlierTypes;
 use entity_map::Seeded;
-use form_data::SubType;
-use form_reader::type_section_bytes;
+use form_reader::{SubType, type_section_bytes};
 use std::alloc::{AllocError, Global};
 use std::collections::HashMap;
 use std::hash::{DefaultHasher, Hasher};

@@ -2,9 +2,9 @@
 
 ghost use Rattle.std.specs.Prelude.{◌↔◌, map, All, IsTrue};
 ghost use Rattle.wasm_spec.specs.Sizes.{CompositeHasShortLists, HasShortLists};
-ghost use Rattle.form_data.specs.Views.{composite_of, sub_type_of};
+ghost use Rattle.form_reader.specs.Views.{composite_of, sub_type_of};
 
-use form_data::{CompositeInnerType, SubType};
+use form_reader::{CompositeInnerType, SubType};
 
 /// Lists that are short have fewer entries, 2^30.
 const LONG: usize = 1073741824;

@@ -1,12 +1,12 @@
 //! The members of a group.
 
 ghost use Rattle.std.specs.Prelude.{◌≡◌, ◌<◌, length, map, slice_get, Some};
-ghost use Rattle.form_data.specs.Views.{sub_type_of};
+ghost use Rattle.form_reader.specs.Views.{sub_type_of};
 ghost use Rattle.form_types.specs.Types.{IsSound};
 
 use crate::elements::RecGroupId;
 use crate::types::Types;
-use form_data::SubType;
+use form_reader::SubType;
 
 impl Types {
     /// The members of a group, in order, as they name types by ids. (This project's own.)

@@ -3,12 +3,12 @@
 ghost use Rattle.std.specs.Prelude.{◌≡◌, length, map};
 ghost use Rattle.std.specs.Option.{option_map};
 ghost use Rattle.wasm_spec.specs.TypeData.{heap_of, reference_of, value_of, storage_of, field_of, map_heap, map_reference, map_value, map_storage, map_field, map_composite, map_sub_type, map_group, group_edges};
-ghost use Rattle.form_data.specs.Views.{composite_of, sub_type_of};
+ghost use Rattle.form_reader.specs.Views.{composite_of, sub_type_of};
 ghost use Rattle.form_types.specs.EarlierTypes.{ids_of};
 ghost use Rattle.form_types.specs.Placed.{named_index};
 
 use crate::earlier_types::{id_at, place_of};
-use form_data::{CompositeInnerType, SubType};
+use form_reader::{CompositeInnerType, SubType};
 use wasm_spec::{CoreTypeId, FieldType, HeapType, RefType, StorageType, UnpackedIndex, ValType};
 
 fn named_index(ids: &[CoreTypeId], index: UnpackedIndex) -> UnpackedIndex

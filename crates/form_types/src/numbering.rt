@@ -1,7 +1,7 @@
 //! The types of a module are numbered, group by group, as they are read.
 
 ghost use Rattle.std.specs.Prelude.{◌≡◌, ◌+◌, ◌<◌, ◌^◌, [], length, map, OnOk};
-ghost use Rattle.form_data.specs.Views.{group_of};
+ghost use Rattle.form_reader.specs.Views.{group_of};
 ghost use Rattle.form_types.specs.Keys.{key_of, read_key};
 ghost use Rattle.form_types.specs.Distinct.{IsListed};
 ghost use Rattle.form_types.specs.Adding.{HasFewIds, AddsGroup};
@@ -14,8 +14,7 @@ use crate::finding::{FirstIds, find_or_note, name_key, push_row, read_key, seed_
 use crate::list_lengths::members_are_short;
 use crate::named::name_group;
 use entity_map::Seeded;
-use form_data::RecGroup;
-use form_reader::TakeGroups;
+use form_reader::{RecGroup, TakeGroups};
 use std::alloc::{AllocError, Global};
 use std::collections::HashMap;
 use wasm_spec::CoreTypeId;

@@ -6,7 +6,7 @@ ghost use Rattle.wasm_spec.specs.Sizes.{HasShortTypes};
 ghost use Rattle.rule_spec.specs.Lists.{lists_of_module};
 ghost use Rattle.rule_spec.specs.Rules.{Keeps};
 ghost use Rattle.rule_spec.specs.TypeRules.{IsDeclaredWell};
-ghost use Rattle.form_data.specs.Views.{module_of};
+ghost use Rattle.form_reader.specs.Views.{module_of};
 ghost use Rattle.form_reader.specs.Input.{HasTaken};
 ghost use Rattle.form_types.specs.Numbered.{AreNumbered};
 ghost use Rattle.form_types.specs.Taken.{Took};
@@ -17,7 +17,7 @@ use crate::numbering::Numbering;
 use crate::types::Types;
 use crate::validator::Validator;
 use entity_map::OutOfMemory;
-use form_data::Form;
+use form_reader::Form;
 use std::alloc::Global;
 
 impl Numbering {

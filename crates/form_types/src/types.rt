@@ -1,13 +1,13 @@
 //! The list of types of a module, and look-ups in it.
 
 ghost use Rattle.std.specs.Prelude.{◌≡◌, ◌<◌, length, slice_get, slice_index, Some};
-ghost use Rattle.form_data.specs.Views.{sub_type_of};
+ghost use Rattle.form_reader.specs.Views.{sub_type_of};
 ghost use Rattle.form_types.specs.Types.{types_by_id, group_numbers, member_ids, IsSound};
 
 use crate::distinct::Distinct;
 use crate::elements::{CoreTypeIds, RecGroupId};
 use crate::validator::ValidatorId;
-use form_data::SubType;
+use form_reader::SubType;
 use std::marker::Model;
 use std::ops::Index;
 use wasm_spec::CoreTypeId;

@@ -5,7 +5,7 @@ use Rattle.std.specs.List.{filter_map, flat_map}
 use Rattle.std.specs.Option.{option_map}
 use Rattle.std.proofs.lemmas.Option.{none-some, same_Some, slice_get-map}
 use Rattle.std.proofs.lemmas.List.Elements.{All-nil, All-cons, All-map}
-use Rattle.type_data.specs.Names.{index_of as index_in}
+use Rattle.type_spec.specs.Names.{index_of as index_in}
 use Rattle.wasm_index.specs.Index.{number_of}
 use Rattle.entity_map.specs.declared.pool.Atom.{Atom}
 use Rattle.wasm_types.specs.declared.index.EngineOrModuleTypeIndex.{EngineOrModuleTypeIndex}

@@ -2,7 +2,7 @@
 use Rattle.std.specs.Prelude.{◌≡◌, ◌<◌, ℕ, List, map, All, Option, None, IsSome, IfSome, option_and_then, unwrap_or}
 use Rattle.std.specs.List.{filter_map}
 use Rattle.std.specs.Option.{option_map}
-use Rattle.type_data.specs.Names.{named}
+use Rattle.type_spec.specs.Names.{named}
 use Rattle.entity_map.specs.declared.pool.Atom.{Atom}
 use Rattle.wasm_index.specs.Index.{number_of, index_of}
 use Rattle.wasm_index.specs.declared.index.Index.{Index}

@@ -1,6 +1,6 @@
 -- The types that a module names.
 use Rattle.std.specs.Prelude.{List}
-use Rattle.type_data.specs.Names.{index_of as index_in}
+use Rattle.type_spec.specs.Names.{index_of as index_in}
 use Rattle.wasm_types.specs.declared.index.EngineOrModuleTypeIndex.{EngineOrModuleTypeIndex}
 use Rattle.wasm_module.specs.declared.module.Module.{Module}
 use Rattle.wasm_module.specs.ModuleData.{module_data_of}

@@ -3,7 +3,7 @@
 use Rattle.std.specs.Prelude.{ℕ, Bool, true, false, not, nat_eq, nat_le, List, [], ◌∷◌, Option, Some, None, IsSome, All, find}
 use Rattle.std.specs.Bool.{beq}
 use Rattle.std.specs.Option.{option_map}
-use Rattle.type_data.specs.Names.{index_of as index_in}
+use Rattle.type_spec.specs.Names.{index_of as index_in}
 use Rattle.wasm_types.specs.declared.entity.EntityType.{EntityType}
 use Rattle.wasm_types.specs.declared.entity.EntityType.TheVariants as entity
 use Rattle.wasm_types.specs.declared.index.EngineOrModuleTypeIndex.{EngineOrModuleTypeIndex}

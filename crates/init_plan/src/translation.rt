@@ -9,7 +9,7 @@ ghost use Rattle.init_plan.specs.Views.{unprocessed_of, IsUnprocessed, bytes_of,
 use crate::debug_info::{BranchHint, DebugInfoData};
 use crate::private_parts::PrivateParts;
 use entity_map::{OutOfMemory, PrimaryMap, SecondaryMap};
-use form_data::FunctionBody;
+use form_reader::FunctionBody;
 use form_types::Types;
 use std::alloc::Global;
 use std::collections::BTreeMap;

@@ -22,7 +22,7 @@ use Rattle.init_plan.specs.Agreement.{fields_of, globals_of}
 use Rattle.init_plan.specs.Views.{memory_plan_of}
 use Rattle.init_plan.specs.Tables.{plan_of_tables}
 use Rattle.init_plan.specs.Held.{plan_of_globals}
-use Rattle.plan.specs.declared.plan.Plan.{Plan}
+use Rattle.plan_text.specs.declared.plan.Plan.{Plan}
 use Rattle.translate.specs.Options.{Options, images, passive_bytes}
 use Rattle.translate.specs.Planned.{IsPlanned}
 use Rattle.translate.specs.Initialised.{IsInitialised}

@@ -4,7 +4,7 @@ ghost use Rattle.std.specs.Prelude.{ℕ, List};
 ghost use Rattle.std.specs.Int.{IsPowerOfTwo};
 ghost use Rattle.replay_spec.specs.Phases.{Phase};
 ghost use Rattle.replay_spec.specs.Values.{Value};
-ghost use Rattle.plan.specs.declared.plan.Plan.{Plan};
+ghost use Rattle.plan_text.specs.declared.plan.Plan.{Plan};
 ghost use Rattle.translate.specs.Options.{Options};
 ghost use Rattle.translate.specs.Planned.{IsPlanned};
 ghost use Rattle.instance_laws.specs.Recipes.{InstantiatesAlike};

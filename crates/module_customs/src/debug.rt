@@ -2,13 +2,13 @@
 
 ghost use Rattle.std.specs.Prelude.{◌≡◌};
 ghost use Rattle.std.specs.List.{list_any};
-ghost use Rattle.form_lists.specs.Source.{source_module};
-ghost use Rattle.form_lists.specs.Singles.{single_of};
+ghost use Rattle.form_rules.specs.Source.{source_module};
+ghost use Rattle.form_rules.specs.Singles.{single_of};
 ghost use Rattle.module_customs.specs.DebugSections.{is_debug_section};
 
 use custom_sections::is_debug_name;
-use form_data::Payload;
-use form_lists::{Single, Source, singles_of};
+use form_reader::Payload;
+use form_rules::{Single, Source, singles_of};
 
 /// Whether a custom section of a module holds debug information, by its name (core specification,
 /// appendix, custom sections; the names are those of the DWARF sections).

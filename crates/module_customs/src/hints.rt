@@ -2,8 +2,8 @@
 
 ghost use Rattle.std.specs.Prelude.{◌≡◌, ◌++◌, ◌∷◌, [], map, unwrap_or, IfOk, OnOk};
 ghost use Rattle.std.specs.Option.{option_map};
-ghost use Rattle.form_lists.specs.Source.{source_module};
-ghost use Rattle.form_lists.specs.Singles.{single_of};
+ghost use Rattle.form_rules.specs.Source.{source_module};
+ghost use Rattle.form_rules.specs.Singles.{single_of};
 ghost use Rattle.wasm_index.specs.Index.{number_of};
 ghost use Rattle.custom_sections.specs.Views.{hint_entry_of};
 ghost use Rattle.module_customs.specs.Hints.{HintLists, HasFirst, hint_lists, module_hints, branch_hint_of};
@@ -12,7 +12,7 @@ ghost use Rattle.module_customs.specs.Names.{at_number};
 use crate::names::contents_named;
 use custom_sections::{Hint, read_hints};
 use entity_map::{EntityRef, OutOfMemory};
-use form_lists::{Single, Source, singles_of};
+use form_rules::{Single, Source, singles_of};
 use init_plan::BranchHint;
 use std::alloc::Global;
 use std::collections::BTreeMap;

@@ -5,9 +5,9 @@ ghost use Rattle.std.specs.Iterator.{YieldsFirstBy, item_count};
 ghost use Rattle.std.specs.Option.{option_map, option_or};
 ghost use Rattle.wasm_spec.specs.Module as plain;
 ghost use Rattle.wasm_spec.specs.Module.{imports_of_section, function_types_of_section, function_import, HasFewEntries};
-ghost use Rattle.form_data.specs.Views.{import_of};
-ghost use Rattle.form_lists.specs.Source.{source_module};
-ghost use Rattle.form_lists.specs.Singles.{single_of};
+ghost use Rattle.form_reader.specs.Views.{import_of};
+ghost use Rattle.form_rules.specs.Source.{source_module};
+ghost use Rattle.form_rules.specs.Singles.{single_of};
 ghost use Rattle.wasm_index.specs.Index.{number_of};
 ghost use Rattle.custom_sections.specs.NameLists.{NameLists, joined};
 ghost use Rattle.custom_sections.specs.Views.{text_of, locals_of, names_of};
@@ -15,9 +15,8 @@ ghost use Rattle.module_customs.specs.Names.{functions_among, one_if, contents_o
 
 use custom_sections::{Names, read_names};
 use entity_map::{EntityRef, OutOfMemory};
-use form_data::{Import, Payload};
-use form_lists::{Entry, Single, Source, singles_of};
-use form_reader::{DefinedFunction, InputEntries};
+use form_reader::{DefinedFunction, Import, InputEntries, Payload};
+use form_rules::{Entry, Single, Source, singles_of};
 use init_plan::NameSection;
 use std::alloc::{AllocError, Global};
 use std::collections::BTreeMap;

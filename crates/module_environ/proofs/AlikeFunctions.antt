@@ -18,7 +18,7 @@ use Rattle.rule_spec.specs.Lists.{Declared, declared_from, declared_groups, list
 use Rattle.rule_spec.specs.Lists as rule
 use Rattle.rule_spec.specs.References.{BodyRefersIn}
 use Rattle.rule_spec.specs.TypeRules.{IsBelow, KindIsBelow, ValueIsBelow, IsDeclaredWell}
-use Rattle.form_lists.specs.declared.lists.Lists.{Lists}
+use Rattle.form_rules.specs.declared.lists.Lists.{Lists}
 use Rattle.form_types.proofs.AllOf.{All-joined, All-parts}
 use Rattle.form_types.proofs.Ruled.{declared-types}
 use Rattle.wasm_types.specs.ValueViews.{Name, value_of as view_value}

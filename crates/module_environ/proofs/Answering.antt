@@ -12,7 +12,7 @@ use Rattle.wasm_spec.specs.Interfaces.{HasNoInterfaceTypes}
 use Rattle.rule_spec.specs.Lists.{lists_of_module}
 use Rattle.rule_spec.specs.Rules.{Keeps}
 use Rattle.form_reader.specs.declared.input.InputForm.{InputForm}
-use Rattle.form_data.specs.Views.{body_of}
+use Rattle.form_reader.specs.Views.{body_of}
 use Rattle.form_reader.specs.Input.{input_module_of}
 use Rattle.form_reader.specs.declared.error.ReadError.{ReadError}
 use Rattle.form_reader.specs.declared.error.ReadError.TheVariants as read

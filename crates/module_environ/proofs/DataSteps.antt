@@ -3,10 +3,10 @@ use Rattle.std.proofs.Common.{◌≡◌, ◌∙◌, ℕ, ◌+◌, List, [], ◌�
 use Rattle.std.specs.List.{cons_option}
 use Rattle.std.proofs.lemmas.List.{append-nil, map_push}
 use Rattle.wasm_spec.specs.Module.{Segment}
-use Rattle.form_data.specs.declared.form.ConstExpr.{ConstExpr}
-use Rattle.form_data.specs.declared.form.DataKind.{DataKind}
-use Rattle.form_data.specs.declared.form.DataKind.TheVariants as kinds
-use Rattle.form_data.specs.Views.{data_kind_of}
+use Rattle.form_reader.specs.declared.form.ConstExpr.{ConstExpr}
+use Rattle.form_reader.specs.declared.form.DataKind.{DataKind}
+use Rattle.form_reader.specs.declared.form.DataKind.TheVariants as kinds
+use Rattle.form_reader.specs.Views.{data_kind_of}
 use Rattle.wasm_index.specs.Index.{number_of}
 use Rattle.wasm_convert.specs.Conversion.{LookUp}
 use Rattle.wasm_convert.specs.Constants.{const_ops_of, expression_of}

@@ -6,7 +6,7 @@ use Rattle.std.proofs.lemmas.List.{length-map}
 use Rattle.wasm_spec.specs.declared.types.UnpackedIndex.{UnpackedIndex}
 use Rattle.wasm_spec.specs.TypeData.{Composite, Func, SubType, Group, map_composite, map_sub_type}
 use Rattle.wasm_spec.specs.Module as plain
-use Rattle.type_data.specs.Names.{Named, FuncName}
+use Rattle.type_spec.specs.Names.{Named, FuncName}
 use Rattle.type_spec.specs.Interned.{kind_of_type, kind_at, composite_at, taken, interned}
 use Rattle.type_spec.specs.Taken.{NameEarlier}
 use Rattle.type_spec.proofs.Homes.{size}

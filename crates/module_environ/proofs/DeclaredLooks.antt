@@ -8,7 +8,7 @@ use Rattle.std.proofs.lemmas.Option.{slice_get-get_or, slice_get_past}
 use Rattle.wasm_spec.specs.declared.types.UnpackedIndex.{UnpackedIndex}
 use Rattle.wasm_spec.specs.TypeData.{Group}
 use Rattle.wasm_spec.specs.Module as plain
-use Rattle.type_data.specs.Names.{FuncName}
+use Rattle.type_spec.specs.Names.{FuncName}
 use Rattle.type_spec.specs.Interned.{Built, kind_of_type, composite_at, kind_at, taken}
 use Rattle.type_spec.specs.Taken.{NameEarlier}
 use Rattle.type_spec.proofs.Homes.{size}

@@ -12,7 +12,7 @@ use Rattle.wasm_spec.specs.Module as plain
 use Rattle.rule_spec.specs.declared.rules.Rule.TheVariants.{L4, L10}
 use Rattle.rule_spec.specs.Lists.{lists_of_module}
 use Rattle.rule_spec.specs.Lists as rule
-use Rattle.form_lists.specs.declared.lists.Lists.{Lists}
+use Rattle.form_rules.specs.declared.lists.Lists.{Lists}
 use Rattle.wasm_types.specs.declared.table.Table.{Table}
 use Rattle.wasm_types.specs.EntityData.{global_edges, table_edges, map_global, map_table}
 use Rattle.wasm_types.specs.EntityViews.{table_of}

@@ -14,7 +14,7 @@ use Rattle.rule_spec.specs.Lists.{lists_of_module, kind_at}
 use Rattle.rule_spec.specs.Lists as rule
 use Rattle.rule_spec.specs.Indices.{TakesAndGivesNothing}
 use Rattle.form_types.specs.Types.{TypesData}
-use Rattle.form_lists.specs.declared.lists.Lists.{Lists}
+use Rattle.form_rules.specs.declared.lists.Lists.{Lists}
 use Rattle.wasm_index.specs.declared.index.Index.{Index}
 use Rattle.wasm_index.specs.declared.spaces.FuncSpace.{FuncSpace}
 use Rattle.wasm_index.specs.declared.spaces.StaticModuleSpace.{StaticModuleSpace}

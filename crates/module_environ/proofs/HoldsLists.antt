@@ -23,7 +23,7 @@ use Rattle.rule_spec.specs.TypeRules.{IsBelow, HeapIsBelow}
 use Rattle.rule_spec.specs.References.{TableRefersIn, AllReferIn}
 use Rattle.rule_spec.specs.Rules.{Keeps}
 use Rattle.rule_spec.specs.declared.rules.Rule.TheVariants as rule
-use Rattle.type_data.specs.Names.{NameKind, FuncName}
+use Rattle.type_spec.specs.Names.{NameKind, FuncName}
 use Rattle.type_spec.specs.Interned as interned
 use Rattle.form_types.specs.Placed.{place_of, placed}
 use Rattle.wasm_types.specs.declared.heap.WasmHeapType.{WasmHeapType}

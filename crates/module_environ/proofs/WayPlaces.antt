@@ -11,7 +11,7 @@ use Rattle.type_spec.specs.Interned.{taken}
 use Rattle.form_types.specs.Types.{TypesData}
 use Rattle.form_types.specs.Numbered.{AreNumbered}
 use Rattle.form_types.specs.Placed.{placed_groups}
-use Rattle.form_lists.specs.declared.lists.Lists.{Lists}
+use Rattle.form_rules.specs.declared.lists.Lists.{Lists}
 use Rattle.wasm_types.specs.declared.index.EngineOrModuleTypeIndex.{EngineOrModuleTypeIndex}
 use Rattle.module_types.specs.Builder.{Builder, BuilderState, builder_view, starts}
 use Rattle.module_types.specs.declared.error.BuildError.{BuildError}

@@ -8,9 +8,9 @@ use Rattle.wasm_spec.specs.Module as plain
 use Rattle.rule_spec.specs.Lists.{lists_of_module}
 use Rattle.rule_spec.specs.Lists as rule
 use Rattle.rule_spec.specs.Rules.{Keeps}
-use Rattle.form_lists.specs.Source.{source_module}
-use Rattle.form_lists.specs.declared.lists.Lists.{Lists}
-use Rattle.form_lists.specs.Views.{lists_of}
+use Rattle.form_rules.specs.Source.{source_module}
+use Rattle.form_rules.specs.declared.lists.Lists.{Lists}
+use Rattle.form_rules.specs.Views.{lists_of}
 use Rattle.wasm_types.specs.EntityViews.{global_of, table_of}
 use Rattle.wasm_types.specs.Memories.{memory_of}
 use Rattle.wasm_convert.specs.Conversion.{LookUp}

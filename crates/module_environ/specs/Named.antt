@@ -3,7 +3,7 @@ use Rattle.std.specs.Prelude.{ℕ, List, Option, Some, None, slice_get, option_a
 use Rattle.wasm_spec.specs.declared.types.UnpackedIndex.{UnpackedIndex}
 use Rattle.wasm_spec.specs.declared.types.UnpackedIndex.TheVariants as index
 use Rattle.wasm_spec.specs.TypeData.{Heap, Concrete, Abstract}
-use Rattle.type_data.specs.Names.{FuncName}
+use Rattle.type_spec.specs.Names.{FuncName}
 use Rattle.form_types.specs.Placed.{place_of}
 use Rattle.wasm_types.specs.declared.heap.WasmHeapType.{WasmHeapType}
 use Rattle.wasm_types.specs.ValueViews.{Name, heap_of}

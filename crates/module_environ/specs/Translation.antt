@@ -7,7 +7,7 @@ use Rattle.entity_map.specs.Secondary.{value_at}
 use Rattle.wasm_spec.specs.Module.{function_import, table_import, memory_import, global_import, tag_import}
 use Rattle.wasm_spec.specs.Module as plain
 use Rattle.rule_spec.specs.Lists.{lists_of_module}
-use Rattle.form_data.specs.Views.{body_of}
+use Rattle.form_reader.specs.Views.{body_of}
 use Rattle.form_types.specs.Numbered.{AreNumbered}
 use Rattle.form_types.specs.Types.{TypesData}
 use Rattle.wasm_index.specs.declared.index.Index.{Index}

@@ -4,13 +4,12 @@ ghost use Rattle.std.specs.Prelude.{◌≡◌, ◌+◌, ◌<◌, ◌^◌, ◌++�
 ghost use Rattle.std.specs.List.{flat_map};
 ghost use Rattle.wasm_spec.specs.Module.{bodies_of_section, HasFewEntries};
 ghost use Rattle.std.specs.Option.{option_to_list};
-ghost use Rattle.form_data.specs.Views.{body_of};
+ghost use Rattle.form_reader.specs.Views.{body_of};
 ghost use Rattle.form_reader.specs.Input.{sections_of_part, input_module_of};
 ghost use Rattle.module_environ.specs.Translation.{code_places, first_or_zero};
 
 use entity_map::{OutOfMemory, PrimaryMap};
-use form_data::{FunctionBody, Payload};
-use form_reader::{InputForm, InputPart, InputSection};
+use form_reader::{FunctionBody, InputForm, InputPart, InputSection, Payload};
 use init_plan::FunctionBodyData;
 use std::alloc::Global;
 use wasm_index::DefinedFuncIndex;

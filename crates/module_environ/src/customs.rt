@@ -4,7 +4,7 @@ ghost use Rattle.std.specs.Prelude.{◌≡◌, ◌+◌, ◌-◌, ◌<◌, ◌^�
 ghost use Rattle.std.specs.List.{cons_option};
 ghost use Rattle.std.specs.Option.{option_map};
 ghost use Rattle.wasm_spec.specs.Module.{Module};
-ghost use Rattle.form_lists.specs.Source.{source_module};
+ghost use Rattle.form_rules.specs.Source.{source_module};
 ghost use Rattle.wasm_index.specs.Index.{number_of};
 ghost use Rattle.module_customs.specs.Hints.{HasFirst};
 ghost use Rattle.module_customs.specs.Names.{at_number, module_names, KeepsNames};
@@ -15,7 +15,7 @@ ghost use Rattle.module_environ.specs.Pooled.{with_texts, own_name, HasText};
 
 use crate::metadata::function_metadata;
 use entity_map::{Atom, OutOfMemory, StringPool};
-use form_lists::{Lists, Source};
+use form_rules::{Lists, Source};
 use init_plan::{BranchHint, ModuleTranslation, NameSection};
 use module_customs::{has_debug_section, kept_hints, kept_names};
 use std::alloc::Global;

@@ -3,8 +3,8 @@
 ghost use Rattle.std.specs.Prelude.{◌≡◌, ◌++◌, ◌<◌, ◌∷◌, [], map, OnOk};
 ghost use Rattle.std.specs.List.{filter_map};
 ghost use Rattle.wasm_spec.specs.Module.{segments, HasFewEntries};
-ghost use Rattle.form_data.specs.Views.{segment_of};
-ghost use Rattle.form_lists.specs.Source.{source_module};
+ghost use Rattle.form_reader.specs.Views.{segment_of};
+ghost use Rattle.form_rules.specs.Source.{source_module};
 ghost use Rattle.replay_spec.specs.Data.{active_of_kind};
 ghost use Rattle.replay_spec.specs.Held.{held_segment, held_segments};
 ghost use Rattle.memory_images.specs.Views.{active_segment_of};
@@ -14,8 +14,8 @@ ghost use Rattle.module_environ.specs.Segments.{AreDataConvertible, IsDataConver
 
 use crate::offsets::convert_offset;
 use entity_map::{EntityRef, OutOfMemory};
-use form_data::{DataKind, DataSegment};
-use form_lists::{Source, walk_of};
+use form_reader::{DataKind, DataSegment};
+use form_rules::{Source, walk_of};
 use init_plan::{MemoryInit, MemoryInitializer, ModuleTranslation};
 use std::alloc::Global;
 use wasm_convert::TypeConvert;

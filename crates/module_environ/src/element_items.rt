@@ -2,7 +2,7 @@
 
 ghost use Rattle.std.specs.Prelude.{◌≡◌, ◌<◌, map, All, IfOk, OnOk};
 ghost use Rattle.std.specs.List.{flat_map};
-ghost use Rattle.form_data.specs.Views.{expression_of, items_of};
+ghost use Rattle.form_reader.specs.Views.{expression_of, items_of};
 ghost use Rattle.wasm_index.specs.Index.{number_of};
 ghost use Rattle.wasm_convert.specs.Constants.{const_ops_of};
 ghost use Rattle.module_environ.specs.Convertible.{IsConvertible};
@@ -14,7 +14,7 @@ ghost use Rattle.module_environ.specs.Segments.{AreItemsConvertible};
 use crate::escapes::Escaping;
 use crate::expressions::convert_expression;
 use entity_map::{EntityRef, OutOfMemory};
-use form_data::ElementItems;
+use form_reader::ElementItems;
 use std::alloc::Global;
 use wasm_convert::{ConstExpr, TypeConvert};
 use wasm_index::FuncIndex;
@@ -63,7 +63,7 @@ fn convert_functions(
 fn convert_expressions(
     alloc: Global,
     env: &dyn TypeConvert,
-    list: &[form_data::ConstExpr],
+    list: &[form_reader::ConstExpr],
     escaping: &mut Escaping,
 ) -> Result<Vec<ConstExpr>, OutOfMemory>
     requires { All (IsConvertible (knows env.now) escaping.old.count) (map expression_of list.now) }

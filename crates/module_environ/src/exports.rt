@@ -4,8 +4,8 @@ ghost use Rattle.std.specs.Prelude.{◌≡◌, ℕ, ◌<◌, ◌++◌, ◌∷◌
 ghost use Rattle.std.specs.List.{flat_map};
 ghost use Rattle.wasm_spec.specs.Module.{exports_of_section, HasFewEntries};
 ghost use Rattle.wasm_spec.specs.Module as plain;
-ghost use Rattle.form_data.specs.Views.{export_of};
-ghost use Rattle.form_lists.specs.Source.{source_module};
+ghost use Rattle.form_reader.specs.Views.{export_of};
+ghost use Rattle.form_rules.specs.Source.{source_module};
 ghost use Rattle.form_rules.specs.Names.{exported_names};
 ghost use Rattle.module_environ.specs.Entities.{entity_at, exported_entities, resolved_export};
 ghost use Rattle.module_environ.specs.Exported.{CanExport, entered, exported_functions};
@@ -14,8 +14,8 @@ ghost use Rattle.module_environ.specs.Pooled.{HasText};
 
 use crate::escapes::Escaping;
 use entity_map::{Atom, EntityRef, OutOfMemory, StringPool};
-use form_data::Export;
-use form_lists::{Source, count_entries, entries_of};
+use form_reader::Export;
+use form_rules::{Source, count_entries, entries_of};
 use indexmap::IndexMap;
 use std::alloc::Global;
 use wasm_index::{FuncIndex, GlobalIndex, MemoryIndex, TableIndex, TagIndex};

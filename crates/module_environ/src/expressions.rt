@@ -16,7 +16,7 @@ use wasm_convert::{ConstExpr, TypeConvert};
 pub(crate) fn convert_expression(
     alloc: Global,
     env: &dyn TypeConvert,
-    expression: &form_data::ConstExpr,
+    expression: &form_reader::ConstExpr,
     escaping: &mut Escaping,
 ) -> Result<ConstExpr, OutOfMemory>
     requires { IsConvertible (knows env.now) escaping.old.count expression.now.ops.items }

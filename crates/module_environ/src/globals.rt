@@ -3,7 +3,7 @@
 ghost use Rattle.std.specs.Prelude.{◌≡◌, ◌<◌, length, map, All, IfOk, OnOk};
 ghost use Rattle.std.specs.List.{flat_map};
 ghost use Rattle.wasm_spec.specs.Module.{globals_of_section};
-ghost use Rattle.form_lists.specs.Source.{source_module};
+ghost use Rattle.form_rules.specs.Source.{source_module};
 ghost use Rattle.module_environ.specs.Convertible.{IsConvertible};
 ghost use Rattle.module_environ.specs.Escapes.{referred};
 ghost use Rattle.module_environ.specs.EscapeLog.{after_escapes};
@@ -14,8 +14,8 @@ ghost use Rattle.module_environ.specs.FirstGlobals.{seen_globals, AddsInitialise
 use crate::escapes::Escaping;
 use crate::expressions::convert_expression;
 use entity_map::{EntityRef, OutOfMemory};
-use form_data::GlobalDef;
-use form_lists::{Source, walk_of};
+use form_reader::GlobalDef;
+use form_rules::{Source, walk_of};
 use std::alloc::Global;
 use wasm_convert::{ConstExpr, GlobalConstValue, TypeConvert};
 use wasm_index::DefinedGlobalIndex;

@@ -3,8 +3,8 @@
 ghost use Rattle.std.specs.Prelude.{◌≡◌, ◌+◌, ◌-◌, ◌<◌, ◌^◌, [], length, map, All, IfOk, OnOk};
 ghost use Rattle.wasm_spec.specs.Module as plain;
 ghost use Rattle.wasm_spec.specs.Module.{HasFewEntries};
-ghost use Rattle.form_data.specs.Views.{import_of};
-ghost use Rattle.form_lists.specs.Source.{source_module};
+ghost use Rattle.form_reader.specs.Views.{import_of};
+ghost use Rattle.form_rules.specs.Source.{source_module};
 ghost use Rattle.form_rules.specs.Names.{import_names, imported_names};
 ghost use Rattle.wasm_index.specs.Index.{index_of};
 ghost use Rattle.module_environ.specs.Entities.{imported_entities, resolved_import};
@@ -12,8 +12,8 @@ ghost use Rattle.module_environ.specs.Imported.{AreCounted, HaveIndices, counted
 ghost use Rattle.module_environ.specs.Pooled.{with_texts, HasTexts};
 
 use entity_map::{EntityRef, OutOfMemory, StringPool};
-use form_data::Import;
-use form_lists::{Source, entries_of};
+use form_reader::Import;
+use form_rules::{Source, entries_of};
 use std::alloc::Global;
 use wasm_index::Index;
 use wasm_module::Initializer;

@@ -3,7 +3,7 @@
 ghost use Rattle.std.specs.Prelude.{◌≡◌, ℕ, ◌<◌, ◌++◌, length, map, All, IfOk, OnOk};
 ghost use Rattle.wasm_spec.specs.TypeData.{Value, value_edges, map_value, value_of};
 ghost use Rattle.rule_spec.specs.Lists.{lists_of_module};
-ghost use Rattle.form_data.specs.Views.{composite_of, group_of};
+ghost use Rattle.form_reader.specs.Views.{composite_of, group_of};
 ghost use Rattle.wasm_types.specs.ValueViews.{Name, value_of as view_value};
 ghost use Rattle.wasm_convert.specs.Known.{Known};
 ghost use Rattle.module_environ.specs.Filling.{module_in, IsGathered, LooksUpTypes};
@@ -11,8 +11,8 @@ ghost use Rattle.module_environ.specs.Metadata.{params_of, KnowsParams, params_t
 ghost use Rattle.module_environ.specs.Types.{look_up_in};
 
 use entity_map::OutOfMemory;
-use form_data::{CompositeInnerType, FunctionBody, RecGroup};
-use form_lists::{Lists, entries_of, walk_of};
+use form_reader::{CompositeInnerType, FunctionBody, RecGroup};
+use form_rules::{Lists, entries_of, walk_of};
 use init_plan::FunctionMetadata;
 use std::alloc::Global;
 use std::rc::Rc;

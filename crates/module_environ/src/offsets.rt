@@ -5,7 +5,7 @@ ghost use Rattle.wasm_convert.specs.Constants.{const_ops_of};
 ghost use Rattle.module_environ.specs.Segments.{IsOffset};
 
 use entity_map::OutOfMemory;
-use form_typing::one_i32;
+use form_rules::one_i32;
 use std::alloc::Global;
 use wasm_convert::{ConstExpr, TypeConvert};
 
@@ -13,7 +13,7 @@ use wasm_convert::{ConstExpr, TypeConvert};
 pub(crate) fn convert_offset(
     alloc: Global,
     env: &dyn TypeConvert,
-    offset: &form_data::ConstExpr,
+    offset: &form_reader::ConstExpr,
 ) -> Result<ConstExpr, OutOfMemory>
     requires { IsOffset (knows env.now) offset.now.ops.items }
     ensures { IfOk result (λ e. e ≡ const_ops_of (look_up env.now) offset.now.ops.items) }

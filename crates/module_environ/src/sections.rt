@@ -25,7 +25,7 @@ use crate::imports::convert_imports;
 use crate::spaces::{convert_globals, convert_memories, convert_tables, hold_collected};
 use crate::start::start_function;
 use entity_map::{OutOfMemory, PrimaryMap, StringPool};
-use form_lists::Lists;
+use form_rules::Lists;
 use init_plan::ModuleTranslation;
 use std::alloc::Global;
 use wasm_convert::TypeConvert;

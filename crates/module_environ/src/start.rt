@@ -4,12 +4,12 @@ ghost use Rattle.std.specs.Prelude.{◌≡◌, ◌<◌, All, slice_get};
 ghost use Rattle.std.specs.List.{flat_map};
 ghost use Rattle.std.specs.Option.{option_map, option_to_list};
 ghost use Rattle.wasm_spec.specs.Module.{starts_of_section};
-ghost use Rattle.form_lists.specs.Source.{source_module, sections_in};
+ghost use Rattle.form_rules.specs.Source.{source_module, sections_in};
 ghost use Rattle.wasm_index.specs.Index.{number_of};
 
 use entity_map::EntityRef;
-use form_data::Payload;
-use form_lists::{Section, Source, sections_of};
+use form_reader::Payload;
+use form_rules::{Section, Source, sections_of};
 use wasm_index::FuncIndex;
 
 /// The start function of a module that has one (core specification, 2.5, start function).

@@ -2,12 +2,12 @@
 
 ghost use Rattle.std.specs.Prelude.{◌≡◌};
 ghost use Rattle.wasm_spec.specs.declared.types.UnpackedIndex.TheVariants as index;
-ghost use Rattle.type_data.specs.Names.{FuncName};
+ghost use Rattle.type_spec.specs.Names.{FuncName};
 ghost use Rattle.wasm_index.specs.Index.{index_of};
 ghost use Rattle.wasm_types.specs.declared.index.EngineOrModuleTypeIndex.TheVariants.{Module};
 
 use entity_map::EntityRef;
-use form_data::FuncType;
+use form_reader::FuncType;
 use std::test::Fail;
 use wasm_convert::{ConstExpr, ConstOp, GlobalConstValue, Operands, TypeConvert};
 use wasm_index::ModuleInternedTypeIndex;

@@ -1,7 +1,7 @@
 //! Visits of a few types.
 
 ghost use Rattle.std.specs.Prelude.{◌≡◌, ◌<◌, ◌+◌, [], ◌∷◌, IfOk};
-ghost use Rattle.type_data.specs.Names.{index_of as index_in};
+ghost use Rattle.type_spec.specs.Names.{index_of as index_in};
 ghost use Rattle.wasm_index.specs.Index.{index_of};
 ghost use Rattle.wasm_spec.specs.TypeData.{value_edges, sub_type_edges, group_edges};
 ghost use Rattle.wasm_types.specs.TypeViews.{sub_type_of, group_of};

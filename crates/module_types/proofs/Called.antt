@@ -7,7 +7,7 @@ use Rattle.std.specs.Option.{option_map}
 use Rattle.std.proofs.lemmas.Bool.{cases_lt, cases_eq}
 use Rattle.std.proofs.lemmas.List.{length-append, length-replicate, get_or-replicate, get_or_past, length-set, length_push, get_or-set_same, get_or_push, append_assoc, append-nil, get_or_append_left, get_or-append_right, get_or-set_other, set-append_left, set_at}
 use Rattle.wasm_spec.specs.TypeData.{Group, Composite, Func}
-use Rattle.type_data.specs.Names.{Named}
+use Rattle.type_spec.specs.Names.{Named}
 use Rattle.type_spec.specs.Interned.{Interned, Called, Built, mapped, same_mapped, plain, alone, knows, with_trampoline, assign_at, assign_trampoline, assign_trampolines, composite_at, opened, with_group, exception_for, startup_type, taken, interned, Span, now_known, next_span}
 use Rattle.wasm_index.specs.Index.{number_of}
 use Rattle.module_types.specs.Views.{TypeIndex}

@@ -7,11 +7,11 @@ use Rattle.wasm_spec.specs.declared.types.UnpackedIndex.{UnpackedIndex}
 use Rattle.wasm_spec.specs.declared.types.UnpackedIndex.TheVariants as index
 use Rattle.wasm_spec.specs.TypeData.{SubType, map_sub_type, sub_type_edges, group_edges}
 use Rattle.wasm_spec.specs.Sizes.{HasShortLists}
-use Rattle.type_data.specs.TypeShapes.{sub_type_shape}
-use Rattle.type_data.specs.Names.{named}
+use Rattle.type_spec.specs.TypeShapes.{sub_type_shape}
+use Rattle.type_spec.specs.Names.{named}
 use Rattle.type_spec.specs.Interned.{Span}
-use Rattle.form_data.specs.declared.types.SubType.{SubType as Read}
-use Rattle.form_data.specs.Views as form
+use Rattle.form_reader.specs.declared.types.SubType.{SubType as Read}
+use Rattle.form_reader.specs.Views as form
 use Rattle.form_types.specs.Types.{NamedGroup, TypesData, types_by_id, IsIdBelow, NameEarlier, ContinuesFunction, IsSound}
 use Rattle.form_types.specs.Numbered.{first_id}
 use Rattle.wasm_types.specs.declared.sub.WasmSubType.{WasmSubType}

@@ -11,8 +11,8 @@ use Rattle.std.proofs.lemmas.Option.{slice_get-get_or}
 use Rattle.wasm_spec.specs.declared.types.UnpackedIndex.{UnpackedIndex}
 use Rattle.wasm_spec.specs.TypeData.{SubType, Group, map_sub_type, map_group, group_edges}
 use Rattle.wasm_spec.specs.Module as plain
-use Rattle.type_data.specs.TypeShapes.{group_shape}
-use Rattle.type_data.specs.Names.{NameKind, plainly}
+use Rattle.type_spec.specs.TypeShapes.{group_shape}
+use Rattle.type_spec.specs.Names.{NameKind, plainly}
 use Rattle.type_spec.specs.Equality.{Home, home, SameType}
 use Rattle.type_spec.specs.Interned.{Interned, Span, Built, Taking, with_group, opened, kind_of_type, kind_at, interned_group, take_group, none_taken, taken}
 use Rattle.type_spec.specs.Taken.{NameEarlier}

@@ -13,7 +13,7 @@ use Rattle.type_spec.specs.Taken.{NameEarlier, TakeEqual, SameLists}
 use Rattle.type_spec.proofs.ByNames.{name_by, same-kind}
 use Rattle.module_types.specs.Runs.{with_groups, AllFilled}
 use Rattle.module_types.proofs.Taking.{IsMet, Covers, form, Next, Stand, IsExactBelow, next-copy, number_in, whole}
-use Rattle.type_data.specs.ListLaws.{front-same, back-same}
+use Rattle.type_spec.specs.ListLaws.{front-same, back-same}
 use Rattle.module_types.proofs.GroupMembers.{types-apart, groups-apart, first-group, longer}
 use Rattle.std.specs.List.{AllZip}
 use Rattle.type_spec.proofs.Equivalence.{type-turned, type-chained, groups-long}

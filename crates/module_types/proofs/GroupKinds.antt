@@ -2,7 +2,7 @@
 use Rattle.std.proofs.Common.{◌≡◌, ◌∙◌, ◌<◌, ℕ, zero, suc, ◌+◌, List, [], ◌∷◌, ◌++◌, length, take, drop, get_or, map, refl, sym, ap, arith}
 use Rattle.std.proofs.lemmas.List.{length-map, drop_at, take_at}
 use Rattle.wasm_spec.specs.TypeData.{SubType, Composite, map_composite, map_group}
-use Rattle.type_data.specs.Names.{NameKind}
+use Rattle.type_spec.specs.Names.{NameKind}
 use Rattle.type_spec.specs.Interned.{kind_of_type}
 use Rattle.module_types.specs.Conversion.{kinds_of}
 

@@ -4,7 +4,7 @@ use Rattle.std.proofs.Common.{◌≡◌, ◌≤◌, ◌<◌, ℕ, zero, suc, ◌
 use Rattle.std.specs.Prelude.{◌==◌, if◌then◌else◌}
 use Rattle.std.proofs.lemmas.List.{append_assoc, append-nil, length-append, get_or_at, get_or_append_left, drop_at, take_at}
 use Rattle.wasm_spec.specs.TypeData.{Composite, Func, Group}
-use Rattle.type_data.specs.Names.{Named}
+use Rattle.type_spec.specs.Names.{Named}
 use Rattle.type_spec.specs.Interned.{Interned, Called, Built, Span, mapped, plain, alone, assign_at, assign_trampoline, assign_trampolines, composite_at, opened, with_group, next_span, exception_for, startup_type, with_exception, with_startup, Taking, empty, with_exceptions, numbered, interned_group, take_group, none_taken, taken, interned}
 use Rattle.type_spec.specs.Equality.{Home}
 use Rattle.entity_map.specs.Firsts.{firsts, firsts_after}

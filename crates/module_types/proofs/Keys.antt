@@ -5,8 +5,8 @@ use Rattle.std.specs.Cmp.Lexicographic.{pointwise}
 use Rattle.std.proofs.lemmas.Bool.Decides.{same_from_decides}
 use Rattle.wasm_spec.specs.TypeData as types
 use Rattle.wasm_spec.specs.TypeData.{map_value, map_function}
-use Rattle.type_data.specs.Shapes.{erased}
-use Rattle.type_data.specs.Names.{Named, named}
+use Rattle.type_spec.specs.Shapes.{erased}
+use Rattle.type_spec.specs.Names.{Named, named}
 use Rattle.type_spec.specs.Same.{same_value, same_function}
 use Rattle.type_spec.specs.Tests.{function-decides}
 use Rattle.type_spec.specs.Interned.{Called, passed, mapped, decide_mapped, same_mapped}

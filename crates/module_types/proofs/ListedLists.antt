@@ -5,10 +5,10 @@ use Rattle.std.proofs.lemmas.List.{length-map}
 use Rattle.std.proofs.lemmas.List.Elements.{All-nil, All-append, All-weaker, All-head, All-tail}
 use Rattle.std.proofs.lemmas.Grind.{common_steps, flat_map-append}
 use Rattle.wasm_spec.specs.TypeData.{Group, map_sub_type, map_group, sub_type_edges, group_edges}
-use Rattle.type_data.specs.ListLaws.{map-twice}
-use Rattle.type_data.specs.Shapes.{erased}
-use Rattle.type_data.specs.TypeShapes.{group_shape}
-use Rattle.type_data.specs.Names.{named, named-tells, index_of as index_in}
+use Rattle.type_spec.specs.ListLaws.{map-twice}
+use Rattle.type_spec.specs.Shapes.{erased}
+use Rattle.type_spec.specs.TypeShapes.{group_shape}
+use Rattle.type_spec.specs.Names.{named, named-tells, index_of as index_in}
 use Rattle.type_spec.specs.Interned.{Interned}
 use Rattle.type_spec.specs.Taken.{NameEarlier}
 use Rattle.type_spec.proofs.Homes.{joined, size, size-cons}

@@ -11,8 +11,8 @@ use Rattle.std.proofs.lemmas.Bool.{cases_lt}
 use Rattle.wasm_spec.specs.declared.types.UnpackedIndex.{UnpackedIndex}
 use Rattle.wasm_spec.specs.declared.types.UnpackedIndex.TheVariants as index
 use Rattle.wasm_spec.specs.TypeData.{SubType, Struct, Func, map_group, group_edges}
-use Rattle.type_data.specs.TypeShapes.{group_shape}
-use Rattle.type_data.specs.Names.{NameKind, Named, index_of, plainly, alike-mapped}
+use Rattle.type_spec.specs.TypeShapes.{group_shape}
+use Rattle.type_spec.specs.Names.{NameKind, Named, index_of, plainly, alike-mapped}
 use Rattle.type_spec.specs.Interned.{Interned, Called, Built, Span, kind_of_type, composite_at, plain, mapped, opened, with_group, with_exception, with_startup, exception_for, startup_type, empty}
 use Rattle.type_spec.proofs.ByNames.{name_by, by_names, zip-known-itself}
 use Rattle.type_spec.proofs.Homes.{joined, size}

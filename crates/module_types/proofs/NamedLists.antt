@@ -7,9 +7,9 @@ use Rattle.std.proofs.lemmas.Bool.{cases_lt, false≢true}
 use Rattle.std.proofs.lemmas.List.{length-map, length_push, get_or_past}
 use Rattle.std.proofs.lemmas.List.Elements.{All-nil, All-map, All-weaker, All-cons, All-append}
 use Rattle.wasm_spec.specs.TypeData.{Struct, SubType, Group, map_sub_type, map_group, group_edges, Value, Composite, Func, Exn, map_value, map_field, map_composite, value_edges, field_edges, composite_edges, sub_type_edges}
-use Rattle.type_data.specs.Shapes.{erased}
-use Rattle.type_data.specs.TypeShapes.{group_shape}
-use Rattle.type_data.specs.Names.{NameKind, plainly, Named, index_of}
+use Rattle.type_spec.specs.Shapes.{erased}
+use Rattle.type_spec.specs.TypeShapes.{group_shape}
+use Rattle.type_spec.specs.Names.{NameKind, plainly, Named, index_of}
 use Rattle.type_spec.specs.Equality.{Home}
 use Rattle.type_spec.specs.Interned.{Interned, Built, empty, with_group, plain, exception_for, composite_at, startup_type, kind_of_type, kind_at, taken, interned, Called, passed, mapped, opened, field_for, with_exception, with_startup}
 use Rattle.type_spec.specs.TakenGroups.{taken_groups}

@@ -5,9 +5,9 @@ use Rattle.std.proofs.lemmas.Bool.{leb-true, leb-false, false≢true}
 use Rattle.std.proofs.lemmas.List.{length-map}
 use Rattle.std.proofs.lemmas.List.Elements.{All-head, All-tail}
 use Rattle.wasm_spec.specs.TypeData.{Group, map_sub_type, map_group, group_edges}
-use Rattle.type_data.specs.Shapes.{erased}
-use Rattle.type_data.specs.TypeShapes.{group_shape}
-use Rattle.type_data.specs.Names.{plainly}
+use Rattle.type_spec.specs.Shapes.{erased}
+use Rattle.type_spec.specs.TypeShapes.{group_shape}
+use Rattle.type_spec.specs.Names.{plainly}
 use Rattle.type_spec.specs.Equality.{Home, home, target, target_by, SameTarget, SameGroup, SameType}
 use Rattle.type_spec.specs.Interned.{Interned, Span, Built, empty, with_group, next_span, opened, kind_at, taken, interned}
 use Rattle.type_spec.specs.TakenGroups.{taken_groups}

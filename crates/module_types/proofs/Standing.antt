@@ -2,7 +2,7 @@
 use Rattle.std.proofs.Common.{◌≡◌, ◌∙◌, ◌<◌, ◌≤◌, ℕ, zero, suc, ◌+◌, ◌-◌, List, [], ◌∷◌, length, drop, get_or, sym, ap, subst, arith}
 use Rattle.std.proofs.lemmas.List.{map-append, take-append-drop, drop-drop, drop-map, take-map}
 use Rattle.std.proofs.Math.ListN.{drop_of_length-le}
-use Rattle.type_data.specs.Names.{index_of}
+use Rattle.type_spec.specs.Names.{index_of}
 use Rattle.type_spec.specs.Equality.{home_from}
 use Rattle.type_spec.specs.Interned.{Interned, Span, Built, kind_of_type, kind_at}
 use Rattle.type_spec.specs.Taken.{NameEarlier}

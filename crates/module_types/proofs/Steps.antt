@@ -25,7 +25,7 @@ use Rattle.wasm_types.specs.TypeViews.{composite_of}
 use Rattle.module_types.specs.Builder.{BuilderState, is_function}
 use Rattle.module_types.specs.Converter.{interned_name}
 use Rattle.wasm_spec.specs.TypeData as types
-use Rattle.type_data.specs.Names.{named}
+use Rattle.type_spec.specs.Names.{named}
 use Rattle.wasm_types.specs.declared.value.WasmValType.{WasmValType}
 use Rattle.wasm_types.specs.declared.field.WasmFieldType.{WasmFieldType}
 

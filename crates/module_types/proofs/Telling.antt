@@ -5,7 +5,7 @@ use Rattle.std.proofs.Common.{◌≡◌, ◌↔◌, ℕ, ◌-◌, ◌<◌, ◌�
 use Rattle.std.specs.List.{All}
 use Rattle.std.proofs.lemmas.Bool.{leb-true, leb-false}
 use Rattle.wasm_spec.specs.TypeData.{Group, group_edges}
-use Rattle.type_data.specs.Names.{NameKind}
+use Rattle.type_spec.specs.Names.{NameKind}
 use Rattle.type_spec.specs.Equality.{Home, home, target, target_by, SameTarget, SameGroup, SameType}
 use Rattle.type_spec.proofs.Equivalence.{groups-type}
 use Rattle.type_spec.proofs.ByNames.{name_by, by_names, names-same, same-names, zip-known}

@@ -12,8 +12,8 @@ use Rattle.module_types.specs.Conversion.{no_span}
 use Rattle.module_types.specs.ListGroups.{span_at, list_groups, IsWellNamed, EngineMap, TellTypes, TellTypesBefore, OneIndex, AreCompared, unkinded, types_in, group_at, kind_in, IsCompared}
 use Rattle.std.specs.Prelude.{if◌then◌else◌}
 use Rattle.wasm_spec.specs.TypeData.{map_group}
-use Rattle.type_data.specs.TypeShapes.{group_shape}
-use Rattle.type_data.specs.Names.{named}
+use Rattle.type_spec.specs.TypeShapes.{group_shape}
+use Rattle.type_spec.specs.Names.{named}
 use Rattle.type_spec.proofs.Homes.{size, home-again}
 use Rattle.type_spec.proofs.ByNames.{name_by, by_names, same-kind}
 use Rattle.wasm_types.specs.declared.index.EngineOrModuleTypeIndex.{EngineOrModuleTypeIndex}

@@ -7,7 +7,7 @@ use Rattle.std.proofs.Math.Seq.{drop-append_seam, take-length}
 use Rattle.std.proofs.lemmas.List.Concat.{flat_map-append}
 use Rattle.std.proofs.lemmas.List.Elements.{All-append, All-weaker}
 use Rattle.wasm_spec.specs.TypeData.{Group, map_sub_type, group_edges, sub_type_edges}
-use Rattle.type_data.specs.Names.{index_of}
+use Rattle.type_spec.specs.Names.{index_of}
 use Rattle.type_spec.specs.Interned.{Interned, Span, kind_of_type}
 use Rattle.type_spec.specs.Taken.{NameEarlier}
 use Rattle.type_spec.proofs.Homes.{size, size-cons}

@@ -3,7 +3,7 @@ use Rattle.std.specs.Prelude.{ℕ, Bool, true, false, nat_eq, List, length, Opti
 use Rattle.std.specs.Option.{option_map}
 use Rattle.std.specs.Map.{lookup}
 use Rattle.wasm_spec.specs.TypeData.{Composite, Func}
-use Rattle.type_data.specs.Names.{Named}
+use Rattle.type_spec.specs.Names.{Named}
 use Rattle.type_spec.specs.Interned.{Interned, Built, empty, with_group, with_exception, with_startup}
 use Rattle.wasm_index.specs.Index.{number_of}
 use Rattle.wasm_types.specs.declared.func.WasmFuncType.{WasmFuncType}

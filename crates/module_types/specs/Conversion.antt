@@ -4,7 +4,7 @@ use Rattle.std.specs.Prelude.{◌≡◌, ◌<◌, ◌⊎◌, ℕ, ◌+◌, ◌-�
 use Rattle.wasm_spec.specs.declared.types.UnpackedIndex.{UnpackedIndex}
 use Rattle.wasm_spec.specs.declared.types.UnpackedIndex.TheVariants as index
 use Rattle.wasm_spec.specs.TypeData.{SubType, map_group, group_edges}
-use Rattle.type_data.specs.Names.{NameKind, FuncName, Named, named}
+use Rattle.type_spec.specs.Names.{NameKind, FuncName, Named, named}
 use Rattle.type_spec.specs.Interned.{Interned, Span, kind_of_type}
 use Rattle.form_types.specs.Types.{NamedGroup, TypesData, types_by_id, group_numbers}
 use Rattle.form_types.specs.Numbered.{first_id}

@@ -6,7 +6,7 @@ use Rattle.std.proofs.lemmas.Bool.{ltb-true, lt-ltb}
 use Rattle.std.specs.Coded.{le_prop}
 use Rattle.wasm_spec.specs.declared.types.UnpackedIndex.{UnpackedIndex}
 use Rattle.wasm_spec.specs.declared.types.UnpackedIndex.TheVariants as index
-use Rattle.type_data.specs.Names.{named}
+use Rattle.type_spec.specs.Names.{named}
 use Rattle.type_spec.specs.Interned.{Span, kind_of_type, composite_at}
 use Rattle.form_types.specs.Types.{TypesData, types_by_id}
 use Rattle.wasm_index.specs.declared.index.Index.{Index}

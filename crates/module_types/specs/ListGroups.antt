@@ -1,7 +1,7 @@
 -- An interned list as a list of groups, whose references are positions in it.
 use Rattle.std.specs.Prelude.{◌≡◌, ◌↔◌, ◌<◌, ◌≤◌, ℕ, ◌-◌, List, length, get_or, take, drop, map}
 use Rattle.wasm_spec.specs.TypeData.{Group, map_group}
-use Rattle.type_data.specs.Names.{NameKind, Named, named, index_of as index_in}
+use Rattle.type_spec.specs.Names.{NameKind, Named, named, index_of as index_in}
 use Rattle.type_spec.specs.Equality.{Home, SameType}
 use Rattle.type_spec.specs.Interned.{Interned, Span, Built, kind_of_type, composite_at}
 use Rattle.type_spec.specs.Taken.{NameEarlier}

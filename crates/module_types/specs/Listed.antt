@@ -1,7 +1,7 @@
 -- Lists whose types may be compared over several modules.
 use Rattle.std.specs.Prelude.{◌≡◌, false, All, List, Option, None}
 use Rattle.wasm_spec.specs.TypeData.{map_group}
-use Rattle.type_data.specs.Names.{named}
+use Rattle.type_spec.specs.Names.{named}
 use Rattle.type_spec.specs.Interned.{Interned, Built}
 use Rattle.wasm_types.specs.declared.func.WasmFuncType.{WasmFuncType}
 use Rattle.wasm_types.specs.TypeViews.{group_of}

@@ -4,8 +4,8 @@ use Rattle.std.specs.Prelude.{List, Option}
 use Rattle.std.specs.declared.ops.Range.{Range}
 use Rattle.std.proofs.Common.{ap}
 use Rattle.wasm_spec.specs.TypeData.{Group, map_group, group_edges}
-use Rattle.type_data.specs.Shapes.{Shape}
-use Rattle.type_data.specs.TypeShapes.{group_shape}
+use Rattle.type_spec.specs.Shapes.{Shape}
+use Rattle.type_spec.specs.TypeShapes.{group_shape}
 use Rattle.wasm_types.specs.declared.index.EngineOrModuleTypeIndex.{EngineOrModuleTypeIndex}
 use Rattle.wasm_types.specs.ValueViews.{Name}
 use Rattle.wasm_types.specs.TypeViews.{group_of}

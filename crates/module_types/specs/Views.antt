@@ -3,7 +3,7 @@ use Rattle.std.specs.Prelude.{ℕ, false, map}
 use Rattle.std.specs.declared.ops.Range.{Range}
 use Rattle.wasm_spec.specs.TypeData as types
 use Rattle.wasm_spec.specs.TypeData.{map_sub_type, map_function, map_value, map_heap}
-use Rattle.type_data.specs.Names.{Named, named}
+use Rattle.type_spec.specs.Names.{Named, named}
 use Rattle.type_spec.specs.Interned.{Interned, Called, Span}
 use Rattle.wasm_index.specs.declared.index.Index.{Index}
 use Rattle.wasm_index.specs.declared.spaces.ModuleInternedTypeSpace.{ModuleInternedTypeSpace}

@@ -3,7 +3,7 @@
 ghost use Rattle.std.specs.Prelude.{◌≡◌, map};
 ghost use Rattle.wasm_spec.specs.TypeData.{Concrete};
 ghost use Rattle.type_spec.specs.Interned.{kind_of_type};
-ghost use Rattle.form_data.specs.Views as form;
+ghost use Rattle.form_reader.specs.Views as form;
 ghost use Rattle.wasm_index.specs.Index.{number_of, index_of};
 ghost use Rattle.wasm_types.specs.ValueViews.{heap_of};
 ghost use Rattle.module_types.specs.Views.{index_at, span_of};
@@ -13,7 +13,7 @@ ghost use Rattle.module_types.specs.Conversion.{HasIndex, KnowsId, index_by_id, 
 use crate::indices_by_key::IndicesByKey;
 use crate::list::ModuleTypes;
 use entity_map::EntityRef;
-use form_data::CompositeInnerType;
+use form_reader::CompositeInnerType;
 use form_types::Types;
 use wasm_convert::TypeConvert;
 use wasm_index::{ModuleInternedRecGroupSpace, ModuleInternedTypeIndex};

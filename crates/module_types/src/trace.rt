@@ -3,8 +3,8 @@
 ghost use Rattle.std.specs.Prelude.{◌≡◌, map, length};
 ghost use Rattle.std.specs.List.{flat_map};
 ghost use Rattle.wasm_spec.specs.TypeData.{sub_type_edges};
-ghost use Rattle.type_data.specs.Names.{Named, by_name, frame, index_of};
-ghost use Rattle.type_data.specs.TypeShapes.{group_shape};
+ghost use Rattle.type_spec.specs.Names.{Named, by_name, frame, index_of};
+ghost use Rattle.type_spec.specs.TypeShapes.{group_shape};
 ghost use Rattle.wasm_types.specs.TypeViews.{group_of};
 ghost use Rattle.wasm_types.specs.ViewsTell.{tells};
 ghost use Rattle.wasm_trace.specs.Runs.{RunMut, MayRunMut};

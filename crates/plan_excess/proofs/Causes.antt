@@ -16,9 +16,9 @@ use Rattle.init_plan.specs.Views.{memory_plan_of}
 use Rattle.init_plan.specs.Tables.{plan_of_tables}
 use Rattle.module_environ.specs.Readable.{IsReadable, Breaks}
 use Rattle.module_environ.proofs.DeclaredKinds.{types-long}
-use Rattle.plan.specs.declared.plan.Plan.{Plan}
-use Rattle.plan.specs.declared.error.TranslateError.{TranslateError}
-use Rattle.plan.specs.declared.error.TranslateError.TheVariants as refusal
+use Rattle.plan_text.specs.declared.plan.Plan.{Plan}
+use Rattle.plan_text.specs.declared.error.TranslateError.{TranslateError}
+use Rattle.plan_text.specs.declared.error.TranslateError.TheVariants as refusal
 use Rattle.translate.specs.Contexts.{Overflows}
 use Rattle.translate.specs.Options.{Options}
 use Rattle.translate.specs.Planned.{KeepsAnd, HasMuchData, HasCause, IsPlanned}

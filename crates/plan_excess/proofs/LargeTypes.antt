@@ -5,7 +5,7 @@ use Rattle.std.specs.Option.{option_map}
 use Rattle.std.proofs.lemmas.List.{length-append}
 use Rattle.std.proofs.lemmas.Option.{slice_get_within, slice_get-map, same_Some}
 use Rattle.wasm_spec.specs.Module as plain
-use Rattle.type_data.specs.Names.{named}
+use Rattle.type_spec.specs.Names.{named}
 use Rattle.type_spec.specs.Interned.{Interned, startup_type}
 use Rattle.wasm_types.specs.declared.sub.WasmSubType.{WasmSubType}
 use Rattle.module_types.specs.Views.{interned_number, interned_of}

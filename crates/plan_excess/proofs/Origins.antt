@@ -5,7 +5,7 @@ use Rattle.std.proofs.lemmas.Bool.{cases_lt}
 use Rattle.std.proofs.lemmas.List.{length-map, length-append}
 use Rattle.std.proofs.lemmas.List.FromFn.{length-map-range_with_len}
 use Rattle.wasm_spec.specs.TypeData.{Group, Func}
-use Rattle.type_data.specs.Names.{FuncName}
+use Rattle.type_spec.specs.Names.{FuncName}
 use Rattle.type_spec.specs.Equality.{Home, home}
 use Rattle.type_spec.specs.Interned.{Interned, Called, Built, Taking, plain, mapped, opened, with_group, kind_of_type, composite_at, numbered, interned_group, taken}
 use Rattle.type_spec.proofs.Homes.{size, home-within, home-again}

@@ -4,7 +4,7 @@ ghost use Rattle.std.specs.Prelude.{◌≡◌, ◌⊎◌, ◌^◌, ◌≤◌, No
 ghost use Rattle.std.specs.Int.{IsPowerOfTwo};
 ghost use Rattle.wasm_spec.specs.Module.{Module};
 ghost use Rattle.module_environ.specs.Readable.{IsReadable};
-ghost use Rattle.plan.specs.declared.error.TranslateError.{TranslateError};
+ghost use Rattle.plan_text.specs.declared.error.TranslateError.{TranslateError};
 ghost use Rattle.translate.specs.Contexts.{Overflows};
 ghost use Rattle.translate.specs.Options.{Options, with_options, init_options};
 ghost use Rattle.translate.specs.Planned.{HasCause, HasMuchData, KeepsAnd};
@@ -16,7 +16,7 @@ use crate::translated::first_large;
 use command_words::Collector;
 use entity_map::OutOfMemory;
 use form_reader::MAX_MODULE_SIZE;
-use plan::TranslateError;
+use plan_text::TranslateError;
 use rule_breaks::list_entry_place;
 use std::alloc::Global;
 use translate::{causes_law, translate_module};

@@ -8,7 +8,7 @@ use Rattle.std.proofs.lemmas.Bool.{cases_lt, cases_eq, lt-ltb, le-ltb, eq-eqb, n
 use Rattle.std.proofs.lemmas.List.{length-map}
 use Rattle.std.proofs.lemmas.List.Sums.{sum_by-cons, sum_by-append, sum_by_push}
 use Rattle.wasm_spec.specs.TypeData.{Composite, Func, Array, Struct, Cont, Exn, SubType, Group, map_composite, map_sub_type, map_group, map_value, map_field}
-use Rattle.type_data.specs.Names.{Named}
+use Rattle.type_spec.specs.Names.{Named}
 use Rattle.entity_map.specs.Firsts.{firsts, firsts_after}
 use Rattle.type_spec.specs.Equality.{Home, home, home_from}
 use Rattle.type_spec.specs.Interned.{Interned, Called, Built, Taking, plain, passed, mapped, same_mapped, knows, with_trampoline, alone, assign_at, assign_trampoline, assign_trampolines, opened, with_group, kind_at, numbered, interned_group, taken, exception_for, field_for, composite_at, with_exception, with_exceptions, startup_type, with_startup, interned}

@@ -8,7 +8,7 @@ use Rattle.std.proofs.lemmas.List.Sums.{sum_by-append, sum_by-cons}
 use Rattle.wasm_spec.specs.declared.types.UnpackedIndex.{UnpackedIndex}
 use Rattle.wasm_spec.specs.TypeData.{Composite, Func, Array, Struct, Cont, Exn, Group, map_value, map_field}
 use Rattle.wasm_spec.specs.Module as plain
-use Rattle.type_data.specs.Names.{named}
+use Rattle.type_spec.specs.Names.{named}
 use Rattle.type_spec.proofs.Homes.{joined}
 use Rattle.form_types.specs.Placed.{place_of, placed, placed_groups}
 use Rattle.wasm_types.specs.declared.composite.WasmCompositeInnerType.{WasmCompositeInnerType}

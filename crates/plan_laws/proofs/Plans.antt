@@ -6,7 +6,7 @@ use Rattle.std.specs.Option.{option_and_then}
 use Rattle.std.specs.Global.{Vec}
 use Rattle.std.proofs.lemmas.List.{length-map}
 use Rattle.entity_map.specs.Secondary.{value_at}
-use Rattle.type_data.specs.ListLaws.{map-twice}
+use Rattle.type_spec.specs.ListLaws.{map-twice}
 use Rattle.wasm_spec.specs.Module as plain
 use Rattle.rule_spec.specs.Rules.{Keeps}
 use Rattle.wasm_index.specs.declared.index.Index.{Index}
@@ -42,7 +42,7 @@ use Rattle.module_environ.specs.Initialisers.{Items, FunctionItems, ExpressionIt
 use Rattle.module_environ.specs.Customs.{names_asked}
 use Rattle.module_environ.specs.Types.{interned_list, type_index, look_up_in}
 use Rattle.module_environ.specs.Readable.{IsReadable}
-use Rattle.plan.specs.declared.plan.Plan.{Plan}
+use Rattle.plan_text.specs.declared.plan.Plan.{Plan}
 use Rattle.translate.specs.Also.{Finds, passive_bytes_of}
 use Rattle.translate.specs.Initialised.{IsInitialised}
 use Rattle.translate.specs.Contexts.{context_of}

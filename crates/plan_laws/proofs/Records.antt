@@ -8,10 +8,10 @@ use Rattle.std.specs.Global.{Vec}
 use Rattle.std.specs.declared.ops.Range.{Range}
 use Rattle.std.proofs.lemmas.List.{length-map}
 use Rattle.entity_map.specs.Keyed.{keyed, keyed_from}
-use Rattle.type_data.specs.ListLaws.{map-twice}
+use Rattle.type_spec.specs.ListLaws.{map-twice}
 use Rattle.wasm_spec.specs.Module.{Body}
 use Rattle.wasm_spec.specs.TypeData.{Value}
-use Rattle.form_data.specs.Views.{body_of}
+use Rattle.form_reader.specs.Views.{body_of}
 use Rattle.wasm_index.specs.declared.index.Index.{Index}
 use Rattle.wasm_index.specs.declared.spaces.FuncSpace.{FuncSpace}
 use Rattle.wasm_index.specs.Index.{number_of, index_of}
@@ -38,7 +38,7 @@ use Rattle.module_environ.specs.Metadata.{FunctionData, view_function}
 use Rattle.vm_offsets.specs.Context.{context_entries, context_size, entry_named}
 use Rattle.vm_offsets.specs.Layouts.{pointer_of}
 use Rattle.vm_offsets.specs.Regions.{context_regions}
-use Rattle.plan.specs.declared.plan.Plan.{Plan}
+use Rattle.plan_text.specs.declared.plan.Plan.{Plan}
 use Rattle.plan_lines.specs.TypeLines.{listed_number}
 use Rattle.plan_tables.specs.declared.record.BodiesRecord.{BodiesRecord}
 use Rattle.plan_tables.specs.declared.record.LayoutsRecord.{LayoutsRecord}

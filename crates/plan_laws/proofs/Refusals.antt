@@ -13,9 +13,9 @@ use Rattle.rule_spec.specs.Rules.{Satisfies, number_of}
 use Rattle.form_reader.proofs.SectionLaws.{module_once}
 use Rattle.form_reader.proofs.Outcomes.{spells_or_stops}
 use Rattle.module_environ.specs.Readable.{Breaks}
-use Rattle.plan.specs.declared.plan.Plan.{Plan}
-use Rattle.plan.specs.declared.error.TranslateError.{TranslateError}
-use Rattle.plan.specs.declared.error.TranslateError.TheVariants as refusal
+use Rattle.plan_text.specs.declared.plan.Plan.{Plan}
+use Rattle.plan_text.specs.declared.error.TranslateError.{TranslateError}
+use Rattle.plan_text.specs.declared.error.TranslateError.TheVariants as refusal
 use Rattle.init_plan.specs.Views.{memory_plan_of}
 use Rattle.init_plan.specs.Tables.{plan_of_tables}
 use Rattle.translate.specs.Options.{Options}

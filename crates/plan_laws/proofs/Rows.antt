@@ -4,7 +4,7 @@ use Rattle.std.specs.List.{flat_map}
 use Rattle.std.specs.Option.{option_map}
 use Rattle.std.proofs.lemmas.List.{length-map}
 use Rattle.entity_map.specs.declared.pool.Atom.{Atom}
-use Rattle.type_data.specs.ListLaws.{map-twice}
+use Rattle.type_spec.specs.ListLaws.{map-twice}
 use Rattle.wasm_index.specs.Index.{number_of}
 use Rattle.wasm_types.specs.declared.entity.EntityIndex.{EntityIndex}
 use Rattle.wasm_types.specs.ViewsTell.{reference_back}

@@ -8,8 +8,8 @@ use Rattle.vm_offsets.specs.Context.{context_size}
 use Rattle.command_words.specs.declared.command.Command.{Command}
 use Rattle.command_words.specs.Commands.{Names}
 use Rattle.devices.specs.Device.{AppendsFront}
-use Rattle.plan.specs.declared.plan.Plan.{Plan}
-use Rattle.plan.specs.declared.error.TranslateError.{TranslateError}
+use Rattle.plan_text.specs.declared.plan.Plan.{Plan}
+use Rattle.plan_text.specs.declared.error.TranslateError.{TranslateError}
 use Rattle.plan_lines.specs.ModuleLines.{startup_line}
 use Rattle.plan_lines.specs.Numbers.{numbers_line}
 use Rattle.plan_text.specs.Summary.{summary_of}

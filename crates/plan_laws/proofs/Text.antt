@@ -35,7 +35,7 @@ use Rattle.module_environ.specs.Entities.{NamedEntity, text_at, resolved_import,
 use Rattle.module_environ.specs.Initialisers.{Items, FunctionItems, ExpressionItems, ActiveItems, view_items, view_segment}
 use Rattle.vm_offsets.specs.Context.{context_size}
 use Rattle.vm_offsets.specs.Regions.{context_regions}
-use Rattle.plan.specs.declared.plan.Plan.{Plan}
+use Rattle.plan_text.specs.declared.plan.Plan.{Plan}
 use Rattle.plan_lines.specs.ContextLines.{region_line}
 use Rattle.plan_lines.specs.Expressions.{expression_text}
 use Rattle.plan_lines.specs.GlobalLines.{global_line, global_expression_line}

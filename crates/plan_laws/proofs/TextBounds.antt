@@ -16,7 +16,7 @@ use Rattle.init_plan.specs.declared.translation.ModuleTranslation.{ModuleTransla
 use Rattle.init_plan.specs.Tables.{own_tables, plan_of_tables}
 use Rattle.init_plan.specs.Views.{memory_plan_of}
 use Rattle.module_environ.specs.Types.{interned_list}
-use Rattle.plan.specs.declared.plan.Plan.{Plan}
+use Rattle.plan_text.specs.declared.plan.Plan.{Plan}
 use Rattle.translate.specs.Initialised.{IsInitialised}
 use Rattle.translate.specs.Options.{Options, header_size, startup_by, runs}
 use Rattle.translate.specs.Planned.{IsPlanned, HoldsTypes}

@@ -4,7 +4,7 @@ use Rattle.std.specs.Option.{option_map}
 use Rattle.std.proofs.lemmas.List.{length-map}
 use Rattle.wasm_spec.specs.Module as plain
 use Rattle.wasm_spec.specs.TypeData.{map_group}
-use Rattle.type_data.specs.Names.{named}
+use Rattle.type_spec.specs.Names.{named}
 use Rattle.rule_spec.specs.Rules.{Keeps}
 use Rattle.form_types.specs.Placed.{placed_groups}
 use Rattle.wasm_index.specs.Index.{number_of, index_of}

@@ -1,8 +1,8 @@
 -- Which two causes of a refusal may both stand.
 use Rattle.std.specs.Prelude.{◌≡◌, ◌⊎◌}
 use Rattle.wasm_spec.specs.declared.operators.What.TheVariants.{InterfaceTypes}
-use Rattle.plan.specs.declared.error.TranslateError.{TranslateError}
-use Rattle.plan.specs.declared.error.TranslateError.TheVariants.{Unsupported, TooLarge, OffsetOverflow}
+use Rattle.plan_text.specs.declared.error.TranslateError.{TranslateError}
+use Rattle.plan_text.specs.declared.error.TranslateError.TheVariants.{Unsupported, TooLarge, OffsetOverflow}
 
 -- Sizes: the runtime data are too large, and so is an object or the context. Or two spellings that
 -- are not taken, of which one is a section of interface types: it may be passed over, so that

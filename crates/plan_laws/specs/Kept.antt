@@ -6,7 +6,7 @@ use Rattle.std.specs.Int.RustNames.{FitsSigned}
 use Rattle.wasm_convert.specs.declared.values.GlobalConstValue.{GlobalConstValue}
 use Rattle.wasm_convert.specs.declared.values.GlobalConstValue.TheVariants.{I32, I64}
 use Rattle.module_customs.specs.Names.{named}
-use Rattle.plan.specs.declared.plan.Plan.{Plan}
+use Rattle.plan_text.specs.declared.plan.Plan.{Plan}
 use Rattle.plan_laws.specs.Same.{local_names, locals_named}
 
 -- a number is below each key

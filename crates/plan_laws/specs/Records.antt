@@ -1,6 +1,6 @@
 -- Two records that tell a plan alike.
 use Rattle.std.specs.Prelude.{◌≡◌, map}
-use Rattle.plan.specs.declared.plan.Plan.{Plan}
+use Rattle.plan_text.specs.declared.plan.Plan.{Plan}
 use Rattle.plan_tables.specs.declared.record.PlanRecord.{PlanRecord}
 use Rattle.plan_tables.specs.Plan.{Tells}
 

@@ -5,7 +5,7 @@ use Rattle.std.specs.Prelude.{◌≡◌, ℕ, List, [], map, None}
 use Rattle.std.specs.BTreeMap.{BTreeMap}
 use Rattle.std.specs.Option.{option_map}
 use Rattle.entity_map.specs.Secondary.{value_at}
-use Rattle.form_data.specs.Views.{body_of}
+use Rattle.form_reader.specs.Views.{body_of}
 use Rattle.wasm_index.specs.declared.index.Index.{Index}
 use Rattle.wasm_index.specs.declared.spaces.FuncSpace.{FuncSpace}
 use Rattle.wasm_index.specs.declared.spaces.MemorySpace.{MemorySpace}
@@ -24,7 +24,7 @@ use Rattle.module_environ.specs.Entities.{text_at, resolved_import, resolved_exp
 use Rattle.module_environ.specs.Initialisers.{view_items, view_segment}
 use Rattle.module_environ.specs.Metadata.{view_function}
 use Rattle.vm_offsets.specs.Layouts.{fields_of}
-use Rattle.plan.specs.declared.plan.Plan.{Plan}
+use Rattle.plan_text.specs.declared.plan.Plan.{Plan}
 
 -- names are had by their texts, and all else is equal
 pub record SameModule (x y : Module) : Type 0 where

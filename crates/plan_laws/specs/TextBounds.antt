@@ -2,7 +2,7 @@
 -- bytes of its own (core specification, 5.1), and a plan lists a fixed multiple of that.
 use Rattle.std.specs.Prelude.{ℕ, ◌+◌, ◌*◌, ◌≤◌, List, length}
 use Rattle.replay_spec.specs.Tables.{most_cells}
-use Rattle.plan.specs.declared.plan.Plan.{Plan}
+use Rattle.plan_text.specs.declared.plan.Plan.{Plan}
 use Rattle.plan_text.specs.PlanText.{text_of_plan}
 use Rattle.plan_laws.specs.TextCosts.{single_lines, lines_of, parts_in, cells_in, names_in, line_bytes, cell_bytes}
 

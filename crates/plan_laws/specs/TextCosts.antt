@@ -20,7 +20,7 @@ use Rattle.init_plan.specs.declared.translation.MemoryInit.{MemoryInit}
 use Rattle.init_plan.specs.declared.translation.MemoryInit.TheVariants as init
 use Rattle.init_plan.specs.declared.translation.MemorySegmentOffset.{MemorySegmentOffset}
 use Rattle.init_plan.specs.declared.translation.MemorySegmentOffset.TheVariants as offset
-use Rattle.plan.specs.declared.plan.Plan.{Plan}
+use Rattle.plan_text.specs.declared.plan.Plan.{Plan}
 use Rattle.plan_text.specs.PlanText.{text_of_plan}
 
 -- ---- what a thing that has a line lists in it

@@ -4,7 +4,7 @@ ghost use Rattle.std.specs.Prelude.{All, map};
 ghost use Rattle.plan_laws.specs.Kept.{IsKept, IsSized, Rises};
 ghost use Rattle.plan_laws.specs.Same.{local_names, locals_named};
 
-use plan::Plan;
+use plan_text::Plan;
 use std::collections::BTreeMap;
 use wasm_convert::GlobalConstValue;
 use wasm_index::{DefinedGlobalIndex, FuncIndex};

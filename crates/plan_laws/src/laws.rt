@@ -1,8 +1,8 @@
 //! The bytes and the options determine what is answered. Each function is the proof of its clauses.
 
 ghost use Rattle.std.specs.Prelude.{◌≡◌, ◌≢◌, ◌⊎◌, ◌<◌, ◌≤◌, ◌^◌, ℕ, List, Option, Some, length, map, string_bytes};
-ghost use Rattle.plan.specs.declared.plan.Plan.{Plan};
-ghost use Rattle.plan.specs.declared.error.TranslateError.{TranslateError};
+ghost use Rattle.plan_text.specs.declared.plan.Plan.{Plan};
+ghost use Rattle.plan_text.specs.declared.error.TranslateError.{TranslateError};
 ghost use Rattle.plan_tables.specs.declared.record.PlanRecord.{PlanRecord};
 ghost use Rattle.plan_tables.specs.Plan.{Tells};
 ghost use Rattle.plan_text.specs.PlanText.{text_of_plan};
@@ -16,7 +16,7 @@ ghost use Rattle.plan_laws.specs.Same.{SamePlan};
 
 use crate::kept::keeps;
 use command_words::read_words;
-use plan::{Plan, TranslateError};
+use plan_text::{Plan, TranslateError};
 use translate::{causes_law, sizes_law};
 
 /// The plan is determined. Two plans of the same bytes, planned with the same options, have one

@@ -7,7 +7,7 @@ ghost use Rattle.plan_laws.specs.TextBounds.{TextIsLinear};
 
 use crate::kept::keeps;
 use crate::text_costs::text_law;
-use plan::Plan;
+use plan_text::Plan;
 
 /// The text of a plan is linear in the bytes of its module, except for the cells of table images.
 /// For each byte of the module, a plan has at most 7 lines, 6 parts of lines and one byte of a

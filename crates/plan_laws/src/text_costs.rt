@@ -26,7 +26,7 @@ use crate::table_bytes::{
 };
 use crate::type_list_bytes::type_list;
 use init_plan::ModuleTranslation;
-use plan::Plan;
+use plan_text::Plan;
 
 fn entities(t: &ModuleTranslation<'_>)
     ensures { length (entities_text t.now) ≤ 128 * (6 + length t.now.module.types + length t.now.module.initializers.items

@@ -23,7 +23,7 @@ ghost use Rattle.plan_laws.specs.TextCosts.{
 use crate::text_bounds::text_bound_law;
 use gc_layout::{GcArrayLayout, GcLayout};
 use init_plan::MemorySegmentOffset;
-use plan::Plan;
+use plan_text::Plan;
 use wasm_convert::ConstOp;
 use wasm_module::{Initializer, TableInitialValue};
 use wasm_types::{WasmCompositeInnerType, WasmValType};

@@ -8,7 +8,7 @@ use Rattle.wasm_spec.specs.declared.types.UnpackedIndex.TheVariants as unpacked
 use Rattle.wasm_spec.specs.declared.entities.TableType.{TableType}
 use Rattle.wasm_spec.specs.declared.entities.GlobalType.{GlobalType}
 use Rattle.wasm_spec.specs.Module as plain
-use Rattle.type_data.specs.Names.{index_of as index_in}
+use Rattle.type_spec.specs.Names.{index_of as index_in}
 use Rattle.type_spec.specs.Interned.{startup_type, taken}
 use Rattle.type_spec.specs.Taken.{NameEarlier}
 use Rattle.rule_spec.specs.declared.rules.Rule.TheVariants.{L2, L10}

@@ -1,6 +1,6 @@
 -- What each import of a planned module is given by the exports of another.
 use Rattle.std.specs.Prelude.{◌≡◌, ℕ, List}
-use Rattle.plan.specs.declared.plan.Plan.{Plan}
+use Rattle.plan_text.specs.declared.plan.Plan.{Plan}
 use Rattle.translate.specs.Options.{Options}
 use Rattle.translate.specs.Planned.{IsPlanned}
 use Rattle.type_registry.specs.declared.key.ModuleKey.{ModuleKey}

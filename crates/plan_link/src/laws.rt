@@ -7,7 +7,7 @@ ghost use Rattle.wasm_types.specs.declared.tunables.Tunables.{Tunables};
 ghost use Rattle.module_types.specs.Builder.{BuilderState};
 ghost use Rattle.init_plan.specs.declared.translation.ModuleTranslation.{ModuleTranslation};
 ghost use Rattle.module_environ.specs.Translated.{IsTranslated};
-ghost use Rattle.plan.specs.declared.plan.Plan.{Plan};
+ghost use Rattle.plan_text.specs.declared.plan.Plan.{Plan};
 ghost use Rattle.translate.specs.Options.{Options};
 ghost use Rattle.translate.specs.Planned.{IsPlanned};
 ghost use Rattle.import_match.specs.Definitions.{Definition};

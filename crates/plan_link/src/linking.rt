@@ -9,7 +9,7 @@ use crate::answering::{answers_of, exports_of};
 use crate::laws::planned_can_link;
 use crate::registering::register;
 use entity_map::OutOfMemory;
-use plan::Plan;
+use plan_text::Plan;
 use std::alloc::Global;
 use type_registry::{TypeRegistry, same_law};
 

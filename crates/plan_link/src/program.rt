@@ -9,7 +9,7 @@ use crate::laws::planned_can_link;
 use crate::program_error::ProgramError;
 use crate::program_links::link_members;
 use crate::program_types::{MOST_TYPES, crowded_at, register_all};
-use plan::Plan;
+use plan_text::Plan;
 use std::alloc::Global;
 use type_registry::{TypeRegistry, same_law};
 use wasm_index::VMSharedTypeIndex;

@@ -2,7 +2,7 @@
 use Rattle.std.specs.Prelude.{◌≡◌, [], map}
 use Rattle.vm_offsets.specs.Layouts.{fields_of, pointer_of, size_of_context}
 use Rattle.vm_offsets.specs.Regions.{context_regions}
-use Rattle.plan.specs.declared.plan.Plan.{Plan}
+use Rattle.plan_text.specs.declared.plan.Plan.{Plan}
 use Rattle.plan_tables.specs.declared.record.PlanRecord.{PlanRecord}
 use Rattle.plan_tables.specs.Bodies.{TellsBodies}
 use Rattle.plan_tables.specs.Context.{TellsContext, region_told, placed_back}

@@ -22,7 +22,7 @@ use crate::structs::structs_row;
 use crate::tables::tables_record;
 use crate::types::types_record;
 use entity_map::OutOfMemory;
-use plan::Plan;
+use plan_text::Plan;
 use std::alloc::Global;
 
 /// Puts the tables of a plan into a record. The tables are in memory to which this library keeps no

@@ -1,3 +1,4 @@
+pub mod Errors
 pub mod Refusals
 pub mod PlanText
 pub mod Summary

@@ -6,7 +6,7 @@ use Rattle.init_plan.specs.declared.translation.ModuleTranslation.{ModuleTransla
 use Rattle.vm_offsets.specs.Layouts.{fields_of, pointer_of, size_of_context}
 use Rattle.vm_offsets.specs.Modules.{HoldsImports}
 use Rattle.vm_offsets.specs.Regions.{context_regions}
-use Rattle.plan.specs.declared.plan.Plan.{Plan}
+use Rattle.plan_text.specs.declared.plan.Plan.{Plan}
 use Rattle.plan_lines.specs.ContextLines.{region_line}
 use Rattle.plan_lines.specs.GlobalLines.{global_line, global_expression_line}
 use Rattle.plan_lines.specs.HintLines.{function_hints}

@@ -3,8 +3,8 @@ use Rattle.std.specs.Prelude.{ℕ, List, [], ◌++◌, codes, decimal}
 use Rattle.rule_spec.specs.Rules.{number_of}
 use Rattle.wasm_spec.specs.declared.operators.What.{What}
 use Rattle.wasm_spec.specs.declared.operators.What.TheVariants as what
-use Rattle.plan.specs.declared.error.TranslateError.{TranslateError}
-use Rattle.plan.specs.declared.error.TranslateError.TheVariants as refusal
+use Rattle.plan_text.specs.declared.error.TranslateError.{TranslateError}
+use Rattle.plan_text.specs.declared.error.TranslateError.TheVariants as refusal
 
 abbrev pub name_of_spelling : What → List ℕ
 name_of_spelling what.Component = codes "component"

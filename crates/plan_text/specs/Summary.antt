@@ -1,7 +1,7 @@
 -- The summary of a module that was made.
 use Rattle.std.specs.Prelude.{ℕ, ◌-◌, List, [], ◌∷◌, ◌++◌, length, sum_by, codes}
 use Rattle.vm_offsets.specs.Layouts.{size_of_context}
-use Rattle.plan.specs.declared.plan.Plan.{Plan}
+use Rattle.plan_text.specs.declared.plan.Plan.{Plan}
 use Rattle.plan_lines.specs.ModuleLines.{startup_line}
 use Rattle.plan_lines.specs.Numbers.{numbers_line}
 

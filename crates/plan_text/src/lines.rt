@@ -3,9 +3,9 @@
 ghost use Rattle.std.specs.Prelude.{◌≡◌, ◌++◌, IfOk, OnOk};
 ghost use Rattle.plan_text.specs.PlanText.{IsPrintable, text_of_plan, entities_text, names_text, tables_text, memories_text, sizes_text};
 
+use crate::Plan;
 use entity_map::OutOfMemory;
 use init_plan::ModuleTranslation;
-use plan::Plan;
 use plan_lines::{
     Text, append_alignment, append_context, append_declared, append_elements, append_entity_counts,
     append_escapes, append_exports, append_function_names, append_gc_heap,

@@ -3,7 +3,7 @@
 ghost use Rattle.std.specs.Prelude.{◌≡◌, ◌≢◌};
 ghost use Rattle.plan_text.specs.Refusals.{text_of_refusal};
 
-use plan::TranslateError;
+use crate::TranslateError;
 use rule_spec::Rule;
 use wasm_spec::What;
 

@@ -3,8 +3,8 @@
 ghost use Rattle.std.specs.Prelude.{◌≡◌, IfOk};
 ghost use Rattle.plan_text.specs.Summary.{summary_of, runtime_total};
 
+use crate::Plan;
 use entity_map::{EntityRef, OutOfMemory};
-use plan::Plan;
 use plan_lines::{Text, append_context, append_numbers, append_startup};
 use std::alloc::Global;
 use wasm_index::RuntimeDataIndex;

@@ -9,7 +9,7 @@ use Rattle.std.proofs.lemmas.List.Sums.{sum_by-cons, sum_by_more}
 use Rattle.std.proofs.lemmas.Option.{slice_get-map, slice_get_within, get_or_from_slice_get}
 use Rattle.translate.specs.Options.{Options}
 use Rattle.translate.specs.Planned.{IsPlanned}
-use Rattle.plan.specs.declared.plan.Plan.{Plan}
+use Rattle.plan_text.specs.declared.plan.Plan.{Plan}
 use Rattle.type_registry.specs.Registry.{RegistryState}
 use Rattle.import_match.specs.Linking.{exported}
 use Rattle.import_match.proofs.Listing.{All-slice_get, All-from_slice_get}

@@ -4,8 +4,8 @@ use Rattle.std.specs.Prelude.{⊤}
 use Rattle.std.specs.List.{AllZip}
 use Rattle.std.proofs.lemmas.List.Elements.{All-nil, All-cons, All-weaker}
 use Rattle.command_words.specs.declared.command.Command.{Command}
-use Rattle.plan.specs.declared.plan.Plan.{Plan}
-use Rattle.plan.specs.declared.error.TranslateError.{TranslateError}
+use Rattle.plan_text.specs.declared.plan.Plan.{Plan}
+use Rattle.plan_text.specs.declared.error.TranslateError.{TranslateError}
 use Rattle.translate.specs.Options.{Options, options_of}
 use Rattle.translate.specs.Planned.{IsPlanned, HasCause}
 use Rattle.plan_link.specs.declared.program.ProgramModule.{ProgramModule}

@@ -2,8 +2,8 @@
 use Rattle.std.proofs.Common.{◌≡◌, List, ℕ, inl, inr, subst}
 use Rattle.std.specs.Prelude.{⊤}
 use Rattle.command_words.specs.declared.command.Command.{Command}
-use Rattle.plan.specs.declared.plan.Plan.{Plan}
-use Rattle.plan.specs.declared.error.TranslateError.{TranslateError}
+use Rattle.plan_text.specs.declared.plan.Plan.{Plan}
+use Rattle.plan_text.specs.declared.error.TranslateError.{TranslateError}
 use Rattle.translate.specs.Options.{options_of}
 use Rattle.translate.specs.Planned.{IsPlanned, HasCause}
 use Rattle.planner_c.specs.declared.links.LinkRecord.{LinkRecord}

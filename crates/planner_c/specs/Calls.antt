@@ -4,8 +4,8 @@ use Rattle.std.specs.Int.{IsPowerOfTwo}
 use Rattle.command_words.specs.declared.command.Collector.{Collector}
 use Rattle.command_words.specs.declared.command.Collector.TheVariants.{Drc, Null}
 use Rattle.command_words.specs.declared.command.Command.{Command}
-use Rattle.plan.specs.declared.plan.Plan.{Plan}
-use Rattle.plan.specs.declared.error.TranslateError.{TranslateError}
+use Rattle.plan_text.specs.declared.plan.Plan.{Plan}
+use Rattle.plan_text.specs.declared.error.TranslateError.{TranslateError}
 use Rattle.translate.specs.Options.{Options, options_of}
 use Rattle.translate.specs.Planned.{IsPlanned, HasCause}
 use Rattle.planner_c.specs.declared.options.PlanOptions.{PlanOptions}

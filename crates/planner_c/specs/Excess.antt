@@ -2,7 +2,7 @@
 use Rattle.std.specs.Prelude.{◌≡◌, ℕ, List, Option, Some, None}
 use Rattle.rule_breaks.specs.declared.list_places.EntryPlace.{EntryPlace}
 use Rattle.refusal_place.specs.Kinds.{id_of}
-use Rattle.plan.specs.declared.error.TranslateError.TheVariants as refusal
+use Rattle.plan_text.specs.declared.error.TranslateError.TheVariants as refusal
 use Rattle.translate.specs.Options.{Options}
 use Rattle.translate.specs.Planned.{HasCause}
 use Rattle.plan_excess.specs.declared.kinds.Excess.{Excess}

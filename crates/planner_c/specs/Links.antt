@@ -1,7 +1,7 @@
 -- What a record reports of two modules that are linked.
 use Rattle.std.specs.Prelude.{◌≡◌, ◌⊎◌, ⊤, ℕ, List, [], map}
-use Rattle.plan.specs.declared.plan.Plan.{Plan}
-use Rattle.plan.specs.declared.error.TranslateError.{TranslateError}
+use Rattle.plan_text.specs.declared.plan.Plan.{Plan}
+use Rattle.plan_text.specs.declared.error.TranslateError.{TranslateError}
 use Rattle.plan_text.specs.Refusals.{text_of_refusal}
 use Rattle.import_match.specs.declared.error.Mismatch.{Mismatch}
 use Rattle.import_match.specs.declared.error.Mismatch.TheVariants as rule

@@ -1,8 +1,8 @@
 -- What the steps of linking a program leave.
 use Rattle.std.specs.Prelude.{◌≡◌, ◌<◌, ◌≤◌, ◌+◌, ℕ, List, [], ◌∷◌, ◌++◌, take, slice_get, All, Some, IfSome}
-use Rattle.plan.specs.declared.plan.Plan.{Plan}
-use Rattle.plan.specs.declared.error.TranslateError.{TranslateError}
-use Rattle.plan.specs.declared.error.TranslateError.TheVariants as refusal
+use Rattle.plan_text.specs.declared.plan.Plan.{Plan}
+use Rattle.plan_text.specs.declared.error.TranslateError.{TranslateError}
+use Rattle.plan_text.specs.declared.error.TranslateError.TheVariants as refusal
 use Rattle.translate.specs.Options.{Options}
 use Rattle.translate.specs.Planned.{IsPlanned, HasCause}
 use Rattle.translate.specs.Valid.{IsValid}

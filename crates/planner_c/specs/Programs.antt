@@ -2,7 +2,7 @@
 use Rattle.std.specs.Prelude.{◌≡◌, ◌<◌, ◌≤◌, ◌+◌, ◌⊎◌, ⊤, ℕ, List, [], ◌∷◌, length, map, take, slice_get, All, Some}
 use Rattle.std.specs.List.{AllZip, flat_map, sum_by}
 use Rattle.std.specs.Str.{IsUtf8}
-use Rattle.plan.specs.declared.error.TranslateError.{TranslateError}
+use Rattle.plan_text.specs.declared.error.TranslateError.{TranslateError}
 use Rattle.plan_text.specs.Refusals.{text_of_refusal}
 use Rattle.translate.specs.Planned.{IsPlanned}
 use Rattle.translate.specs.Valid.{IsValid}

@@ -4,8 +4,8 @@ use Rattle.rule_spec.specs.declared.rules.Rule.{Rule}
 use Rattle.rule_spec.specs.declared.rules.Rule.TheVariants as rule
 use Rattle.wasm_spec.specs.declared.operators.What.{What}
 use Rattle.wasm_spec.specs.declared.operators.What.TheVariants as what
-use Rattle.plan.specs.declared.error.TranslateError.{TranslateError}
-use Rattle.plan.specs.declared.error.TranslateError.TheVariants as refusal
+use Rattle.plan_text.specs.declared.error.TranslateError.{TranslateError}
+use Rattle.plan_text.specs.declared.error.TranslateError.TheVariants as refusal
 use Rattle.plan_tables.specs.declared.record.PlanRecord.{PlanRecord}
 use Rattle.plan_text.specs.Refusals.{text_of_refusal}
 

@@ -15,8 +15,8 @@ use crate::planning::planned;
 use crate::refusals::refusal_numbers;
 use entity_map::OutOfMemory;
 use import_match::Mismatch;
-use plan::{Plan, TranslateError};
 use plan_link::{ImportAnswer, link_plans, mismatch_line};
+use plan_text::{Plan, TranslateError};
 use std::alloc::Global;
 use translate::{NO_MEMORY, REFUSED, SUCCESS, USAGE, refusal_line};
 

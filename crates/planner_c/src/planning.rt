@@ -14,8 +14,8 @@ ghost use Rattle.planner_c.specs.Refusals.{TellsRefusal};
 use crate::options::{PlanOptions, command_of};
 use crate::refusals::tell_refusal;
 use crate::text::TextRecord;
-use plan::{Plan, TranslateError};
 use plan_tables::{PlanRecord, fill_record};
+use plan_text::{Plan, TranslateError};
 use std::alloc::Global;
 use translate::{
     Command, NO_MEMORY, REFUSED, SUCCESS, USAGE, plan_text, refusal_line, translate_module,

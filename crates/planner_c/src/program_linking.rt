@@ -2,7 +2,7 @@
 
 ghost use Rattle.std.specs.Prelude.{◌≡◌, ◌≢◌, ◌⊎◌, ◌↔◌, List, All};
 ghost use Rattle.std.specs.List.{AllZip};
-ghost use Rattle.plan.specs.declared.error.TranslateError.TheVariants as refusal;
+ghost use Rattle.plan_text.specs.declared.error.TranslateError.TheVariants as refusal;
 ghost use Rattle.plan_link.specs.declared.program.ProgramModule.{ProgramModule as Member};
 ghost use Rattle.plan_link.specs.declared.program_error.ProgramError.TheVariants as error;
 ghost use Rattle.plan_link.specs.Program.{IsPlannedModule, GivesEarlier};
@@ -15,8 +15,8 @@ use crate::program_plans::{RefusedModule, are_named, members_of, plans_of};
 use crate::program_tables::program_tables;
 use crate::programs::{NamedModule, ProgramRecord};
 use crate::refusals::refusal_numbers;
-use plan::TranslateError;
 use plan_link::{LinkedModule, ProgramError, ProgramModule, link_program, planned_can_link};
+use plan_text::TranslateError;
 use std::alloc::Global;
 use translate::{NO_MEMORY, REFUSED, SUCCESS, USAGE, refusal_line};
 

@@ -12,8 +12,8 @@ ghost use Rattle.planner_c.specs.Programs.{HasName};
 use crate::planning::planned;
 use crate::programs::NamedModule;
 use entity_map::OutOfMemory;
-use plan::{Plan, TranslateError};
 use plan_link::ProgramModule;
+use plan_text::{Plan, TranslateError};
 use std::alloc::Global;
 use translate::Command;
 

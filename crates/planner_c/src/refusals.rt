@@ -3,8 +3,8 @@
 ghost use Rattle.std.specs.Prelude.{◌≡◌, ◌≢◌};
 ghost use Rattle.planner_c.specs.Refusals.{rule_number, what_number, refusal_row, TellsRefusal};
 
-use plan::TranslateError;
 use plan_tables::PlanRecord;
+use plan_text::TranslateError;
 use rule_spec::Rule;
 use translate::refusal_line;
 use wasm_spec::What;

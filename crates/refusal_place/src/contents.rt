@@ -8,10 +8,10 @@ use crate::entries::{Single, entries_fault};
 use crate::kind::SectionKind;
 use crate::place::Fault;
 use entity_map::OutOfMemory;
-use form_data::{
-    DataSegment, Element, Export, FunctionBody, GlobalDef, Import, RecGroup, TableDef,
+use form_reader::{
+    Cursor, DataSegment, DefinedFunction, DefinedTag, Element, Export, FunctionBody, GlobalDef,
+    Import, ReadError, RecGroup, TableDef,
 };
-use form_reader::{Cursor, DefinedFunction, DefinedTag, ReadError};
 use std::alloc::Global;
 use wasm_spec::{MemoryType, What};
 

@@ -12,10 +12,10 @@ use crate::kind::SectionKind;
 use crate::numbers::read_number;
 use crate::seek::{contents_in_section, seek_section};
 use entity_map::OutOfMemory;
-use form_data::{
-    DataSegment, Element, Export, FunctionBody, GlobalDef, Import, RecGroup, TableDef,
+use form_reader::{
+    Cursor, DataSegment, DefinedFunction, DefinedTag, Element, Entry, Export, FunctionBody,
+    GlobalDef, Import, RecGroup, TableDef,
 };
-use form_reader::{Cursor, DefinedFunction, DefinedTag, Entry};
 use std::alloc::Global;
 use wasm_spec::MemoryType;
 

@@ -12,9 +12,9 @@ use Rattle.wasm_spec.specs.Module as plain
 use Rattle.rule_spec.specs.Lists.{Declared, declared_from, declared_groups, lists_of_module}
 use Rattle.rule_spec.specs.TypeRules.{IsFunction, ContinuesFunction, IsDeclaredWell}
 use Rattle.form_types.proofs.Ruled.{declared-types}
-use Rattle.form_data.specs.declared.types.SubType as listed
-use Rattle.form_data.specs.declared.types.RecGroup.{RecGroup}
-use Rattle.form_data.specs.Views.{composite_of, sub_type_of, group_of}
+use Rattle.form_reader.specs.declared.types.SubType as listed
+use Rattle.form_reader.specs.declared.types.RecGroup.{RecGroup}
+use Rattle.form_reader.specs.Views.{composite_of, sub_type_of, group_of}
 use Rattle.form_reader.specs.Input.{Takes}
 use Rattle.rule_breaks.specs.Search.{Finds, IsFirstWithout}
 use Rattle.rule_breaks.specs.TypeFlags.{is_function, function_flags, ContinuesFlagged, IsWell}

@@ -8,8 +8,8 @@ use Rattle.std.proofs.lemmas.List.Folds.{flat_map-map}
 use Rattle.std.proofs.lemmas.List.Elements.{All-nil, All-cons, All-append, Contains-append_left, Contains-append_right, Contains-push}
 use Rattle.wasm_spec.specs.declared.types.UnpackedIndex.{UnpackedIndex}
 use Rattle.rule_spec.specs.TypeRules.{IsBelow}
-use Rattle.form_data.specs.declared.form.ConstExpr.{ConstExpr}
-use Rattle.form_data.specs.Views.{expression_of}
+use Rattle.form_reader.specs.declared.form.ConstExpr.{ConstExpr}
+use Rattle.form_reader.specs.Views.{expression_of}
 use Rattle.rule_breaks.specs.Named.{expression_types}
 use Rattle.rule_breaks.specs.Past.{FindsPast, FindsMissing}
 

@@ -10,7 +10,7 @@ use Rattle.rule_spec.specs.Limits.{HasLimits, IsOrdered}
 use Rattle.rule_spec.specs.Indices.{IsInSpace, CanStart}
 use Rattle.rule_spec.specs.References.{ImportRefersIn}
 use Rattle.rule_spec.specs.Rules.{Satisfies, locals}
-use Rattle.form_typing.specs.Globals.{IsGlobalTyped}
+use Rattle.form_rules.specs.Globals.{IsGlobalTyped}
 use Rattle.rule_breaks.specs.declared.lists.ModuleList.{ModuleList}
 use Rattle.rule_breaks.specs.declared.lists.ModuleList.TheVariants as list
 use Rattle.rule_breaks.specs.Search.{IsFirstWithout}

@@ -12,9 +12,9 @@ use Rattle.wasm_spec.specs.Module as plain
 use Rattle.rule_spec.specs.Lists.{Lists, Declared, declared_from, declared_groups, lists_of_module}
 use Rattle.rule_spec.specs.TypeRules.{IsBelow, KindIsBelow, NamesFunctionType}
 use Rattle.form_types.specs.Below.{NamesBelow}
-use Rattle.form_data.specs.declared.types.SubType as listed
-use Rattle.form_data.specs.declared.types.RecGroup as listed_group
-use Rattle.form_data.specs.Views.{sub_type_of, group_of}
+use Rattle.form_reader.specs.declared.types.SubType as listed
+use Rattle.form_reader.specs.declared.types.RecGroup as listed_group
+use Rattle.form_reader.specs.Views.{sub_type_of, group_of}
 use Rattle.rule_breaks.specs.declared.fault.IndexSpace.TheVariants as space
 use Rattle.rule_breaks.specs.declared.fault.RuleFault.{RuleFault}
 use Rattle.rule_breaks.specs.declared.fault.RuleFault.TheVariants as fault

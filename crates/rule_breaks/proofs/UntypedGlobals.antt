@@ -7,7 +7,7 @@ use Rattle.wasm_spec.specs.Module.{GlobalDef}
 use Rattle.rule_spec.specs.Lists.{Lists}
 use Rattle.rule_spec.specs.Expressions.{AreGlobalsTyped}
 use Rattle.form_reader.specs.Input.{Takes}
-use Rattle.form_typing.specs.Globals.{IsGlobalTyped}
+use Rattle.form_rules.specs.Globals.{IsGlobalTyped}
 use Rattle.rule_breaks.specs.Breaks.{IsFirstUntyped}
 use Rattle.rule_breaks.proofs.Searching.{seam}
 

@@ -10,7 +10,7 @@ use Rattle.rule_spec.specs.Indices.{IsInSpace, CanStart, NamesMemory, IsElementI
 use Rattle.rule_spec.specs.References.{ImportRefersIn, TableRefersIn, GlobalRefersIn, ElementRefersIn, BodyRefersIn, DataKindRefersIn}
 use Rattle.rule_spec.specs.Expressions.{AreGlobalsTyped, HasTypedInitialiser, IsElementTyped, HasMemoryOffset}
 use Rattle.rule_spec.specs.Rules.{IsInitialised, AreDistinct, Satisfies, locals}
-use Rattle.form_typing.specs.Globals.{IsGlobalTyped}
+use Rattle.form_rules.specs.Globals.{IsGlobalTyped}
 use Rattle.rule_breaks.specs.declared.lists.ModuleList.{ModuleList}
 use Rattle.rule_breaks.specs.declared.lists.ModuleList.TheVariants as list
 use Rattle.rule_breaks.specs.declared.lists.Break.{Break}

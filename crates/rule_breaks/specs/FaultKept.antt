@@ -8,7 +8,7 @@ use Rattle.rule_spec.specs.TypeRules.{NamesFunctionType}
 use Rattle.rule_spec.specs.Indices.{IsInSpace}
 use Rattle.rule_spec.specs.References.{GlobalRefersIn, BodyRefersIn}
 use Rattle.rule_spec.specs.Rules.{locals}
-use Rattle.form_typing.specs.Globals.{IsGlobalTyped}
+use Rattle.form_rules.specs.Globals.{IsGlobalTyped}
 use Rattle.rule_breaks.specs.Breaks.{HasBodies}
 
 abbrev pub FunctionKeeps : Rule → Lists → ℕ → Type 0

@@ -19,7 +19,7 @@ use Rattle.rule_spec.specs.Indices.{CanStart}
 use Rattle.rule_spec.specs.Typing.{HasClass}
 use Rattle.rule_spec.specs.Expressions.{HasTypedInitialiser, HasTableOffset, HasMemoryOffset}
 use Rattle.rule_spec.specs.Rules.{locals}
-use Rattle.form_typing.specs.Globals.{IsGlobalTyped}
+use Rattle.form_rules.specs.Globals.{IsGlobalTyped}
 use Rattle.rule_breaks.specs.declared.lists.ModuleList.{ModuleList}
 use Rattle.rule_breaks.specs.declared.lists.ModuleList.TheVariants as list
 use Rattle.rule_breaks.specs.declared.fault.IndexSpace.{IndexSpace}

@@ -4,8 +4,8 @@ ghost use Rattle.std.specs.Prelude.{◌≡◌, ◌↔◌, IfOk, IfSome};
 ghost use Rattle.rule_spec.specs.declared.rules.Rule.{Rule};
 ghost use Rattle.rule_spec.specs.Lists.{lists_of_module};
 ghost use Rattle.rule_spec.specs.Rules.{Satisfies};
-ghost use Rattle.form_lists.specs.Source.{source_module};
-ghost use Rattle.form_lists.specs.Views.{lists_of};
+ghost use Rattle.form_rules.specs.Source.{source_module};
+ghost use Rattle.form_rules.specs.Views.{lists_of};
 ghost use Rattle.rule_breaks.specs.Breaks.{IsFirstBreak, Locates};
 
 use crate::counts::break_of_counts;
@@ -17,8 +17,7 @@ use crate::lists::Break;
 use crate::references::break_of_references;
 use crate::types::break_of_types;
 use entity_map::OutOfMemory;
-use form_lists::Lists;
-use form_typing::{Typing, struct_defaults};
+use form_rules::{Lists, Typing, struct_defaults};
 use rule_spec::Rule;
 use std::alloc::Global;
 

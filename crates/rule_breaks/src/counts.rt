@@ -4,8 +4,8 @@ ghost use Rattle.std.specs.Prelude.{◌≡◌, ◌+◌, ◌≤◌, length, IfOk,
 ghost use Rattle.std.specs.List.{flat_map};
 ghost use Rattle.wasm_spec.specs.Module.{data_counts_of_section};
 ghost use Rattle.rule_spec.specs.declared.rules.Rule.{Rule};
-ghost use Rattle.form_lists.specs.Source.{source_module, sections_in};
-ghost use Rattle.form_lists.specs.Views.{lists_of};
+ghost use Rattle.form_rules.specs.Source.{source_module, sections_in};
+ghost use Rattle.form_rules.specs.Views.{lists_of};
 ghost use Rattle.rule_breaks.specs.Search.{Finds};
 ghost use Rattle.rule_breaks.specs.Breaks.{FindsBodyCount, Locates};
 
@@ -14,8 +14,8 @@ use crate::lists::{Break, ModuleList, at};
 use crate::numbers::{next_number, numbered};
 use crate::segments::count_segments;
 use entity_map::OutOfMemory;
-use form_data::{FunctionBody, Payload};
-use form_lists::{Lists, Section, Source, count_entries, sections_of};
+use form_reader::{FunctionBody, Payload};
+use form_rules::{Lists, Section, Source, count_entries, sections_of};
 use rule_spec::Rule;
 use std::alloc::{AllocError, Global};
 

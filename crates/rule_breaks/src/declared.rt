@@ -4,14 +4,14 @@ ghost use Rattle.std.specs.Prelude.{◌≡◌, ◌↔◌, ◌+◌, ◌++◌, len
 ghost use Rattle.wasm_spec.specs.Module.{groups};
 ghost use Rattle.rule_spec.specs.Lists.{declared_from, lists_of_module};
 ghost use Rattle.rule_spec.specs.TypeRules.{IsDeclaredWell};
-ghost use Rattle.form_data.specs.Views.{composite_of, sub_type_of};
-ghost use Rattle.form_lists.specs.Source.{source_module};
+ghost use Rattle.form_reader.specs.Views.{composite_of, sub_type_of};
+ghost use Rattle.form_rules.specs.Source.{source_module};
 ghost use Rattle.rule_breaks.specs.Search.{Finds};
 ghost use Rattle.rule_breaks.specs.TypeFlags.{function_flags, is_function as is_function_type, IsFlagged, ContinuesFlagged, IsWell};
 
 use crate::numbers::{next_number, numbered};
-use form_data::{CompositeInnerType, RecGroup, SubType};
-use form_lists::{Source, walk_of};
+use form_reader::{CompositeInnerType, RecGroup, SubType};
+use form_rules::{Source, walk_of};
 use form_types::{is_function, names_below};
 use std::alloc::{AllocError, Global};
 use wasm_spec::UnpackedIndex;

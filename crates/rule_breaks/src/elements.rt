@@ -1,16 +1,14 @@
 //! The first element segment that breaks a rule. Element segments may stay in the input.
 
 ghost use Rattle.std.specs.Prelude.{◌↔◌, IsTrue, IfOk};
-ghost use Rattle.form_data.specs.Views.{element_of};
-ghost use Rattle.form_lists.specs.Views.{lists_of};
+ghost use Rattle.form_reader.specs.Views.{element_of};
+ghost use Rattle.form_rules.specs.Views.{lists_of};
 ghost use Rattle.rule_breaks.specs.Search.{Finds};
 ghost use Rattle.rule_breaks.specs.Kept.{ElementKeeps};
 
 use crate::numbers::next_number;
-use form_data::Element;
-use form_lists::walk_of;
-use form_rules::{element_is_in_range, element_refers};
-use form_typing::{Typing, element_is_typed};
+use form_reader::Element;
+use form_rules::{Typing, element_is_in_range, element_is_typed, element_refers, walk_of};
 use rule_spec::{Class, Rule};
 use std::alloc::{AllocError, Global};
 

@@ -1,20 +1,19 @@
 //! The first import, table, export or body that breaks a rule.
 
 ghost use Rattle.std.specs.Prelude.{◌↔◌, ◌≤◌, length, IsTrue, IfOk};
-ghost use Rattle.form_data.specs.Views.{table_of, body_of};
+ghost use Rattle.form_reader.specs.Views.{table_of, body_of};
 ghost use Rattle.rule_spec.specs.Indices.{IsInSpace};
 ghost use Rattle.rule_spec.specs.References.{ImportRefersIn};
-ghost use Rattle.form_lists.specs.Views.{lists_of};
+ghost use Rattle.form_rules.specs.Views.{lists_of};
 ghost use Rattle.rule_breaks.specs.Search.{Finds};
 ghost use Rattle.rule_breaks.specs.Kept.{TableKeeps, BodyKeeps};
 
 use crate::numbers::next_number;
-use form_data::{Export, FunctionBody, Import, TableDef};
-use form_lists::{Lists, entries_of};
+use form_reader::{Export, FunctionBody, Import, TableDef};
 use form_rules::{
-    body_fits, body_refers, import_refers, is_in_space, is_initialised, table_refers,
+    Lists, Typing, body_fits, body_refers, entries_of, import_refers, is_in_space, is_initialised,
+    table_holds, table_refers,
 };
-use form_typing::{Typing, table_holds};
 use rule_spec::{Class, Rule};
 use std::alloc::{AllocError, Global};
 

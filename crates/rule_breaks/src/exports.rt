@@ -6,16 +6,16 @@ ghost use Rattle.std.specs.Str.{bytes_eq};
 ghost use Rattle.wasm_spec.specs.Module.{exports_of_section};
 ghost use Rattle.entity_map.specs.Pool.{with_text};
 ghost use Rattle.rule_spec.specs.declared.rules.Rule.{Rule};
-ghost use Rattle.form_lists.specs.Source.{source_module};
-ghost use Rattle.form_lists.specs.Views.{lists_of};
+ghost use Rattle.form_rules.specs.Source.{source_module};
+ghost use Rattle.form_rules.specs.Views.{lists_of};
 ghost use Rattle.rule_breaks.specs.Breaks.{FindsRepeated, Locates};
 
 use crate::entries::first_export;
 use crate::lists::{Break, ModuleList, at};
 use crate::numbers::next_number;
 use entity_map::{NameDigest, OutOfMemory, StringPool};
-use form_data::Export;
-use form_lists::{Lists, Source, entries_of};
+use form_reader::Export;
+use form_rules::{Lists, Source, entries_of};
 use rule_spec::Rule;
 use std::alloc::Global;
 

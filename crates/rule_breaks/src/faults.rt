@@ -4,9 +4,9 @@ ghost use Rattle.std.specs.Prelude.{◌≡◌, IfOk};
 ghost use Rattle.rule_spec.specs.declared.rules.Rule.{Rule};
 ghost use Rattle.rule_spec.specs.Lists.{lists_of_module};
 ghost use Rattle.rule_spec.specs.Rules.{Satisfies, KeepsBefore};
-ghost use Rattle.form_data.specs.Views.{module_of};
-ghost use Rattle.form_lists.specs.Source.{source_module};
-ghost use Rattle.form_lists.specs.Views.{lists_of};
+ghost use Rattle.form_reader.specs.Views.{module_of};
+ghost use Rattle.form_rules.specs.Source.{source_module};
+ghost use Rattle.form_rules.specs.Views.{lists_of};
 ghost use Rattle.rule_breaks.specs.Breaks.{IsFirstBreak};
 ghost use Rattle.rule_breaks.specs.Faults.{IsFaultOf};
 
@@ -21,8 +21,8 @@ use crate::faults_spaces::{
 use crate::faults_types::fault_of_type;
 use crate::lists::{Break, ModuleList};
 use entity_map::OutOfMemory;
-use form_data::Form;
-use form_lists::{DeclaredTypes, Lists, Source, gather_lists};
+use form_reader::Form;
+use form_rules::{DeclaredTypes, Lists, Source, gather_lists};
 use form_types::{Validator, numbering_of_form};
 use rule_spec::Rule;
 use std::alloc::{AllocError, Global};

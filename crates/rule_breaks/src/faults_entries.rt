@@ -1,10 +1,10 @@
 //! What is wrong with an import, a table, an export, a body or a stated number of data segments.
 
 ghost use Rattle.std.specs.Prelude.{◌≡◌, ◌<◌, ◌≤◌, length, map, take, Contains, IfOk};
-ghost use Rattle.form_data.specs.Views.{table_of, export_of, body_of};
+ghost use Rattle.form_reader.specs.Views.{table_of, export_of, body_of};
 ghost use Rattle.rule_spec.specs.References.{ImportRefersIn};
 ghost use Rattle.rule_spec.specs.Rules.{locals};
-ghost use Rattle.form_lists.specs.Views.{lists_of};
+ghost use Rattle.form_rules.specs.Views.{lists_of};
 ghost use Rattle.rule_breaks.specs.Breaks.{Counts};
 ghost use Rattle.rule_breaks.specs.Named.{import_types};
 ghost use Rattle.rule_breaks.specs.Kept.{TableKeeps};
@@ -17,9 +17,8 @@ use crate::finding::{entry_at, stated_at};
 use crate::named::{body_past, import_past, no_type, table_past};
 use crate::numbers::next_number;
 use crate::segments::count_segments;
-use form_data::{Export, FunctionBody, Import, TableDef};
-use form_lists::{Lists, entries_of};
-use form_rules::{bodies_hold, is_in_space};
+use form_reader::{Export, FunctionBody, Import, TableDef};
+use form_rules::{Lists, bodies_hold, entries_of, is_in_space};
 use rule_spec::Rule;
 use std::alloc::{AllocError, Global};
 use wasm_spec::{ExternalKind, TypeRef};

@@ -2,14 +2,14 @@
 
 ghost use Rattle.std.specs.Prelude.{◌≡◌, ◌↔◌, ◌+◌, ◌∷◌, [], length, map, IsTrue, IfOk, MatchOption};
 ghost use Rattle.wasm_spec.specs.Module as plain;
-ghost use Rattle.form_data.specs.Views.{global_of, element_of, element_kind_of, items_of, expression_of, data_kind_of, segment_of};
+ghost use Rattle.form_reader.specs.Views.{global_of, element_of, element_kind_of, items_of, expression_of, data_kind_of, segment_of};
 ghost use Rattle.rule_spec.specs.declared.rules.Rule.{Rule};
 ghost use Rattle.rule_spec.specs.declared.classes.Class.TheVariants as class;
 ghost use Rattle.rule_spec.specs.Indices.{NamesMemory, IsElementInRange};
 ghost use Rattle.rule_spec.specs.Typing.{HasClass};
 ghost use Rattle.rule_spec.specs.References.{GlobalRefersIn};
 ghost use Rattle.rule_spec.specs.Expressions.{HasTypedItems};
-ghost use Rattle.form_lists.specs.Views.{lists_of};
+ghost use Rattle.form_rules.specs.Views.{lists_of};
 ghost use Rattle.rule_breaks.specs.Search.{Finds};
 ghost use Rattle.rule_breaks.specs.Kept.{ElementKeeps, SegmentKeeps};
 ghost use Rattle.rule_breaks.specs.FaultKept.{GlobalKeeps};
@@ -22,9 +22,10 @@ use crate::finding::advance_to;
 use crate::named::{element_past, global_past, no_type, segment_past};
 use crate::numbers::next_number;
 use entity_map::OutOfMemory;
-use form_data::{ConstExpr, DataKind, DataSegment, Element, ElementItems, ElementKind, GlobalDef};
-use form_lists::{Lists, walk_of};
-use form_typing::{Typing, element_is_typed, struct_defaults};
+use form_reader::{
+    ConstExpr, DataKind, DataSegment, Element, ElementItems, ElementKind, GlobalDef,
+};
+use form_rules::{Lists, Typing, element_is_typed, struct_defaults, walk_of};
 use rule_spec::{Class, Rule};
 use std::alloc::{AllocError, Global};
 use wasm_spec::RefType;

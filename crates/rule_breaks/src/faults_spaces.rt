@@ -4,16 +4,15 @@ ghost use Rattle.std.specs.Prelude.{◌≡◌, ◌≤◌, length, IfOk, slice_ge
 ghost use Rattle.rule_spec.specs.TypeRules.{NamesFunctionType};
 ghost use Rattle.rule_spec.specs.Limits.{HasLimits, IsOrdered};
 ghost use Rattle.rule_spec.specs.Indices.{CanStart};
-ghost use Rattle.form_lists.specs.Views.{lists_of};
+ghost use Rattle.form_rules.specs.Views.{lists_of};
 ghost use Rattle.rule_breaks.specs.Breaks.{HasBodies};
 ghost use Rattle.rule_breaks.specs.Faults.{At, IsFunctionTypeFault, IsFunctionFault, IsBodyCountFault, IsTableTypeFault, IsMemoryFault, IsStartFault};
 ghost use Rattle.rule_breaks.specs.FaultKept.{FunctionKeeps};
 
 use crate::fault::{IndexSpace, RuleFault};
 use crate::finding::start_at;
-use form_data::FunctionBody;
-use form_lists::{Lists, count_entries};
-use form_rules::is_function_at;
+use form_reader::FunctionBody;
+use form_rules::{Lists, count_entries, is_function_at};
 use rule_spec::Rule;
 use std::alloc::AllocError;
 use wasm_spec::{MemoryType, TableType};

@@ -4,8 +4,8 @@ ghost use Rattle.std.specs.Prelude.{◌≡◌, IfOk, option_to_list, slice_get};
 ghost use Rattle.std.specs.Option.{option_map};
 ghost use Rattle.rule_spec.specs.Lists.{lists_of_module};
 ghost use Rattle.rule_spec.specs.TypeRules.{IsBelow, IsDeclaredWell};
-ghost use Rattle.form_data.specs.Views.{composite_of, sub_type_of};
-ghost use Rattle.form_lists.specs.Source.{source_module};
+ghost use Rattle.form_reader.specs.Views.{composite_of, sub_type_of};
+ghost use Rattle.form_rules.specs.Source.{source_module};
 ghost use Rattle.rule_breaks.specs.TypeFlags.{IsFlagged, ContinuesFlagged, IsWell};
 ghost use Rattle.rule_breaks.specs.Faults.{At, IsDeclaredFault};
 ghost use Rattle.rule_breaks.specs.Past.{FindsPast, IsNoEarlier, IsContinuationFault, IsKindFault, IsMemberFault};
@@ -13,8 +13,8 @@ ghost use Rattle.rule_breaks.specs.Past.{FindsPast, IsNoEarlier, IsContinuationF
 use crate::declared::functions_in;
 use crate::fault::{IndexSpace, RuleFault};
 use crate::named::{index_past, kind_past};
-use form_data::{CompositeInnerType, RecGroup, SubType};
-use form_lists::{Source, walk_of};
+use form_reader::{CompositeInnerType, RecGroup, SubType};
+use form_rules::{Source, walk_of};
 use std::alloc::{AllocError, Global};
 use wasm_spec::UnpackedIndex;
 

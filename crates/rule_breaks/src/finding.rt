@@ -4,13 +4,13 @@ ghost use Rattle.std.specs.Prelude.{◌≡◌, Some, None, IfOk, MatchBool, slic
 ghost use Rattle.std.specs.List.{flat_map};
 ghost use Rattle.std.specs.Option.{option_map};
 ghost use Rattle.wasm_spec.specs.Module.{starts_of_section, data_counts_of_section};
-ghost use Rattle.form_lists.specs.Source.{source_module};
-ghost use Rattle.form_lists.specs.Walk.{walk_left, standing};
+ghost use Rattle.form_rules.specs.Source.{source_module};
+ghost use Rattle.form_rules.specs.Walk.{walk_left, standing};
 
 use crate::counts::stated_in;
 use crate::indices::start_in;
-use form_lists::{Entry, Source, Walk, entries_of, sections_of};
 use form_reader::InputEntry;
+use form_rules::{Entry, Source, Walk, entries_of, sections_of};
 use std::alloc::AllocError;
 
 /// The entry that has this number.

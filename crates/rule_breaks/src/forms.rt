@@ -4,15 +4,15 @@ ghost use Rattle.std.specs.Prelude.{◌≡◌, ◌↔◌, IfOk, IfSome};
 ghost use Rattle.rule_spec.specs.declared.rules.Rule.{Rule};
 ghost use Rattle.rule_spec.specs.Lists.{lists_of_module};
 ghost use Rattle.rule_spec.specs.Rules.{Satisfies, KeepsBefore};
-ghost use Rattle.form_data.specs.Views.{module_of};
+ghost use Rattle.form_reader.specs.Views.{module_of};
 ghost use Rattle.rule_breaks.specs.Breaks.{IsFirstBreak, Locates};
 
 use crate::breaks::located;
 use crate::declared::first_bad_type;
 use crate::lists::{Break, ModuleList, at};
 use entity_map::OutOfMemory;
-use form_data::Form;
-use form_lists::{DeclaredTypes, Source, gather_lists};
+use form_reader::Form;
+use form_rules::{DeclaredTypes, Source, gather_lists};
 use form_types::{Validator, numbering_of_form};
 use rule_spec::Rule;
 use std::alloc::Global;

@@ -2,16 +2,14 @@
 
 ghost use Rattle.std.specs.Prelude.{length, IfOk};
 ghost use Rattle.rule_spec.specs.References.{GlobalRefersIn};
-ghost use Rattle.form_lists.specs.Views.{lists_of};
+ghost use Rattle.form_rules.specs.Views.{lists_of};
 ghost use Rattle.form_rules.specs.Outcomes.{HasGlobals};
 ghost use Rattle.rule_breaks.specs.Search.{Finds};
 ghost use Rattle.rule_breaks.specs.Breaks.{FindsUntyped};
 
 use crate::numbers::next_number;
-use form_data::GlobalDef;
-use form_lists::{Lists, walk_of};
-use form_rules::global_refers;
-use form_typing::{Typing, global_is_typed};
+use form_reader::GlobalDef;
+use form_rules::{Lists, Typing, global_is_typed, global_refers, walk_of};
 use std::alloc::{AllocError, Global};
 
 /// The first global whose initialiser has another class than its content.

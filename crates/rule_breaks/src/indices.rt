@@ -5,8 +5,8 @@ ghost use Rattle.std.specs.List.{flat_map};
 ghost use Rattle.wasm_spec.specs.Module.{starts_of_section};
 ghost use Rattle.rule_spec.specs.declared.rules.Rule.{Rule};
 ghost use Rattle.rule_spec.specs.Indices.{CanStart};
-ghost use Rattle.form_lists.specs.Source.{source_module, sections_in};
-ghost use Rattle.form_lists.specs.Views.{lists_of};
+ghost use Rattle.form_rules.specs.Source.{source_module, sections_in};
+ghost use Rattle.form_rules.specs.Views.{lists_of};
 ghost use Rattle.rule_breaks.specs.Search.{Finds};
 ghost use Rattle.rule_breaks.specs.Breaks.{Locates};
 
@@ -15,10 +15,8 @@ use crate::lists::{Break, ModuleList, at};
 use crate::numbers::next_number;
 use crate::segments::first_segment;
 use entity_map::OutOfMemory;
-use form_data::Payload;
-use form_lists::{Lists, Section, sections_of};
-use form_rules::can_start;
-use form_typing::Typing;
+use form_reader::Payload;
+use form_rules::{Lists, Section, Typing, can_start, sections_of};
 use rule_spec::Rule;
 use std::alloc::{AllocError, Global};
 

@@ -3,15 +3,14 @@
 ghost use Rattle.std.specs.Prelude.{IfOk};
 ghost use Rattle.rule_spec.specs.declared.rules.Rule.{Rule};
 ghost use Rattle.rule_spec.specs.Limits.{HasLimits, IsOrdered};
-ghost use Rattle.form_lists.specs.Views.{lists_of};
+ghost use Rattle.form_rules.specs.Views.{lists_of};
 ghost use Rattle.rule_breaks.specs.Search.{Finds};
 ghost use Rattle.rule_breaks.specs.Breaks.{Locates};
 
 use crate::lists::{Break, ModuleList, at};
 use crate::numbers::next_number;
 use entity_map::OutOfMemory;
-use form_lists::Lists;
-use form_rules::{has_limits, is_ordered};
+use form_rules::{Lists, has_limits, is_ordered};
 use std::alloc::AllocError;
 use wasm_spec::{MemoryType, TableType};
 

@@ -3,7 +3,7 @@
 ghost use Rattle.std.specs.Prelude.{◌≡◌, ◌<◌, ◌^◌, None, length, IfOk, IfSome};
 ghost use Rattle.wasm_spec.specs.Grammar.{Spells};
 ghost use Rattle.wasm_spec.specs.Interfaces.{HasNoInterfaceTypes};
-ghost use Rattle.form_data.specs.Views.{module_of};
+ghost use Rattle.form_reader.specs.Views.{module_of};
 ghost use Rattle.rule_breaks.specs.BrokenAt.{IsInSection};
 ghost use Rattle.rule_breaks.specs.ListPlaces.{IsPlacedAt, IsPlaceOf, LacksIfRead};
 ghost use Rattle.rule_breaks.specs.Listed.{IsListed};
@@ -12,9 +12,8 @@ ghost use Rattle.rule_breaks.specs.SectionEntries.{BeginsAt};
 use crate::lists::Break;
 use crate::section_entries::{SectionEntry, section_entry};
 use entity_map::OutOfMemory;
-use form_data::Form;
-use form_lists::Source;
-use form_reader::{ReadError, read_module};
+use form_reader::{Form, ReadError, read_module};
+use form_rules::Source;
 use refusal_place::{SectionKind, contents_place, entry_place};
 use std::alloc::Global;
 

@@ -3,14 +3,14 @@
 ghost use Rattle.std.specs.Prelude.{◌↔◌, ◌∷◌, [], map, IsTrue};
 ghost use Rattle.std.specs.List.{flat_map};
 ghost use Rattle.wasm_spec.specs.TypeData.{field_edges, composite_edges, field_of};
-ghost use Rattle.form_data.specs.Views.{expression_of, composite_of, table_of, global_of, element_of, element_kind_of, items_of, body_of, data_kind_of};
+ghost use Rattle.form_reader.specs.Views.{expression_of, composite_of, table_of, global_of, element_of, element_kind_of, items_of, body_of, data_kind_of};
 ghost use Rattle.rule_spec.specs.TypeRules.{IsBelow};
 ghost use Rattle.rule_breaks.specs.Named.{heap_types, value_types, operator_types, expression_types, import_types, table_types, global_types, offset_types, item_types, element_types, body_types, segment_types};
 ghost use Rattle.rule_breaks.specs.Faults.{IsNoType};
 ghost use Rattle.rule_breaks.specs.Past.{FindsPast};
 
 use crate::fault::{IndexSpace, RuleFault};
-use form_data::{
+use form_reader::{
     CompositeInnerType, ConstExpr, DataKind, Element, ElementItems, ElementKind, FuncType,
     FunctionBody, GlobalDef, TableDef,
 };

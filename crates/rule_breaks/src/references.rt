@@ -2,7 +2,7 @@
 
 ghost use Rattle.std.specs.Prelude.{◌≤◌, length, IfOk};
 ghost use Rattle.rule_spec.specs.declared.rules.Rule.{Rule};
-ghost use Rattle.form_lists.specs.Views.{lists_of};
+ghost use Rattle.form_rules.specs.Views.{lists_of};
 ghost use Rattle.rule_breaks.specs.Breaks.{Locates};
 
 use crate::elements::first_element;
@@ -11,7 +11,7 @@ use crate::globals::first_referring_global;
 use crate::lists::{Break, ModuleList, at};
 use crate::segments::first_segment;
 use entity_map::OutOfMemory;
-use form_typing::Typing;
+use form_rules::Typing;
 use rule_spec::Rule;
 use std::alloc::Global;
 

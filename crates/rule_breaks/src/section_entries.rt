@@ -2,15 +2,15 @@
 
 ghost use Rattle.std.specs.Prelude.{◌≡◌, ◌≢◌, ◌≤◌, None, length, IfOk, IfSome};
 ghost use Rattle.wasm_spec.specs.Module.{groups, imports, types};
-ghost use Rattle.form_lists.specs.Source.{source_module};
+ghost use Rattle.form_rules.specs.Source.{source_module};
 ghost use Rattle.rule_breaks.specs.ImportKinds.{is_import_of, IsIndexed};
 ghost use Rattle.rule_breaks.specs.Listed.{IsListed};
 ghost use Rattle.rule_breaks.specs.SectionEntries.{IsEntryOf, IsGroupOf};
 
 use crate::lists::{Break, ModuleList};
 use crate::numbers::next_number;
-use form_data::{Import, RecGroup};
-use form_lists::{Source, entries_of, walk_of};
+use form_reader::{Import, RecGroup};
+use form_rules::{Source, entries_of, walk_of};
 use refusal_place::SectionKind;
 use std::alloc::{AllocError, Global};
 use wasm_spec::{ExternalKind, TypeRef};

@@ -2,17 +2,15 @@
 
 ghost use Rattle.std.specs.Prelude.{◌≡◌, ◌↔◌, IsTrue, IfOk, length};
 ghost use Rattle.wasm_spec.specs.Module.{segments};
-ghost use Rattle.form_data.specs.Views.{segment_of};
-ghost use Rattle.form_lists.specs.Source.{source_module};
-ghost use Rattle.form_lists.specs.Views.{lists_of};
+ghost use Rattle.form_reader.specs.Views.{segment_of};
+ghost use Rattle.form_rules.specs.Source.{source_module};
+ghost use Rattle.form_rules.specs.Views.{lists_of};
 ghost use Rattle.rule_breaks.specs.Search.{Finds};
 ghost use Rattle.rule_breaks.specs.Kept.{SegmentKeeps};
 
 use crate::numbers::next_number;
-use form_data::DataSegment;
-use form_lists::{Source, walk_of};
-use form_rules::{data_kind_refers, names_memory};
-use form_typing::{Typing, segment_is_typed};
+use form_reader::DataSegment;
+use form_rules::{Source, Typing, data_kind_refers, names_memory, segment_is_typed, walk_of};
 use rule_spec::{Class, Rule};
 use std::alloc::{AllocError, Global};
 

@@ -6,8 +6,8 @@ use Rattle.std.proofs.lemmas.List.{length-map, get_or-map}
 use Rattle.wasm_spec.specs.declared.types.UnpackedIndex.{UnpackedIndex}
 use Rattle.wasm_spec.specs.TypeData.{Composite, Struct, SubType, Group, map_composite, map_sub_type, map_group}
 use Rattle.wasm_spec.specs.Module as plain
-use Rattle.type_data.specs.Shapes.{erased}
-use Rattle.type_data.specs.Names.{index_of}
+use Rattle.type_spec.specs.Shapes.{erased}
+use Rattle.type_spec.specs.Names.{index_of}
 use Rattle.type_spec.specs.Equality.{home, SameType}
 use Rattle.type_spec.specs.Interned.{Built, startup_type, taken, interned}
 use Rattle.type_spec.specs.Taken.{NameEarlier}

@@ -5,7 +5,7 @@ use Rattle.init_plan.specs.Views.{memory_plan_of}
 use Rattle.init_plan.specs.Tables.{plan_of_tables}
 use Rattle.wasm_spec.specs.Module.{Module}
 use Rattle.module_environ.specs.Types.{declared, type_index}
-use Rattle.plan.specs.declared.plan.Plan.{Plan}
+use Rattle.plan_text.specs.declared.plan.Plan.{Plan}
 use Rattle.translate.specs.Options.{Options, startup_by, runs}
 use Rattle.translate.specs.Planned.{IsPlanned}
 use Rattle.translate.specs.Initialised.{IsInitialised}

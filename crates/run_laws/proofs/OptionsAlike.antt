@@ -13,7 +13,7 @@ use Rattle.init_plan.specs.Agreement.{AgreesInAll, fields_of, globals_of, module
 use Rattle.init_plan.specs.Held.{plan_of_globals}
 use Rattle.init_plan.specs.Tables.{plan_of_tables}
 use Rattle.init_plan.specs.Views.{memory_plan_of}
-use Rattle.plan.specs.declared.plan.Plan.{Plan}
+use Rattle.plan_text.specs.declared.plan.Plan.{Plan}
 use Rattle.plan_run.specs.declared.laid.Way.{Way}
 use Rattle.plan_run.specs.declared.laid.Way.TheVariants as way
 use Rattle.plan_run.specs.Memories.{plan_phase}

@@ -7,7 +7,7 @@ use Rattle.replay_spec.specs.Values.{Value, offset_over}
 use Rattle.init_plan.specs.Views.{memory_plan_of}
 use Rattle.init_plan.specs.Held.{plan_of_globals}
 use Rattle.init_plan.specs.Tables.{plan_of_tables}
-use Rattle.plan.specs.declared.plan.Plan.{Plan}
+use Rattle.plan_text.specs.declared.plan.Plan.{Plan}
 use Rattle.plan_run.specs.declared.laid.Way.{Way}
 use Rattle.plan_run.specs.Fields.{field_count_in}
 use Rattle.plan_run.specs.Memories.{plan_phase}

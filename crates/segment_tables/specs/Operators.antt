@@ -1,7 +1,7 @@
 -- Operators of constant expressions as they were read, as rows.
 use Rattle.wasm_spec.specs.declared.operators.Operator.{Operator}
 use Rattle.wasm_spec.specs.declared.operators.Operator.TheVariants as plain
-use Rattle.type_data.specs.Names.{FuncName}
+use Rattle.type_spec.specs.Names.{FuncName}
 use Rattle.wasm_index.specs.Index.{index_of}
 use Rattle.wasm_types.specs.declared.index.EngineOrModuleTypeIndex.TheVariants.{Module}
 use Rattle.wasm_convert.specs.declared.operators.ConstOp.{ConstOp}

@@ -4,14 +4,14 @@ ghost use Rattle.std.specs.Prelude.{◌≡◌, ◌++◌, List, [], ◌∷◌, le
 ghost use Rattle.std.specs.List.{flat_map};
 ghost use Rattle.wasm_spec.specs.Module as plain;
 ghost use Rattle.wasm_spec.specs.Module.{Expression, segments_of_section};
-ghost use Rattle.form_data.specs.Views.{data_kind_of, segment_of, payload_of};
+ghost use Rattle.form_reader.specs.Views.{data_kind_of, segment_of, payload_of};
 ghost use Rattle.segment_tables.specs.Expressions.{HasExpressions};
 ghost use Rattle.segment_tables.specs.DataSegments.{data_kind_number, memory_number, data_offsets, data_offset_number, HasSegments};
 
 use crate::expressions::{ExpressionRows, push_expression};
 use crate::segment_rows::DataSegmentRow;
 use entity_map::OutOfMemory;
-use form_data::{DataKind, DataSegment, Payload};
+use form_reader::{DataKind, DataSegment, Payload};
 use std::alloc::Global;
 
 fn kind_number(kind: &DataKind) -> u32

@@ -4,14 +4,14 @@ ghost use Rattle.std.specs.Prelude.{◌≡◌, ℕ, ◌+◌, ◌++◌, List, [],
 ghost use Rattle.std.specs.List.{flat_map};
 ghost use Rattle.wasm_spec.specs.Module as plain;
 ghost use Rattle.wasm_spec.specs.Module.{Expression, elements_of_section};
-ghost use Rattle.form_data.specs.Views.{expression_of, element_kind_of, items_of, element_of, payload_of};
+ghost use Rattle.form_reader.specs.Views.{expression_of, element_kind_of, items_of, element_of, payload_of};
 ghost use Rattle.segment_tables.specs.Expressions.{HasExpressions};
 ghost use Rattle.segment_tables.specs.Elements.{kind_number, table_number, offsets_in, offset_number, item_type, expressed_bit, functions_in, expressions_in, element_expressions, element_row, HasElements};
 
 use crate::expressions::{ExpressionRows, push_expression, push_expressions};
 use crate::segment_rows::ElementSegmentRow;
 use entity_map::OutOfMemory;
-use form_data::{ConstExpr, Element, ElementItems, ElementKind, Payload};
+use form_reader::{ConstExpr, Element, ElementItems, ElementKind, Payload};
 use plan_tables::{Span, read_ref_row};
 use std::alloc::Global;
 use wasm_spec::{AbstractHeapType, HeapType, RefType};

@@ -2,12 +2,12 @@
 
 ghost use Rattle.std.specs.Prelude.{◌≡◌, ◌++◌, List, [], ◌∷◌, length, map, OnOk};
 ghost use Rattle.wasm_spec.specs.Module.{Expression};
-ghost use Rattle.form_data.specs.Views.{expression_of};
+ghost use Rattle.form_reader.specs.Views.{expression_of};
 ghost use Rattle.segment_tables.specs.Expressions.{HasExpressions, TellsExpressions};
 
 use crate::operators::push_operators;
 use entity_map::OutOfMemory;
-use form_data::ConstExpr;
+use form_reader::ConstExpr;
 use plan_tables::{ExpressionsRecord, OperatorRow, Span};
 use std::alloc::Global;
 

@@ -3,11 +3,11 @@
 ghost use Rattle.std.specs.Prelude.{◌≡◌, ℕ, ◌++◌, List, map, IfOk, OnOk};
 ghost use Rattle.std.specs.List.{flat_map};
 ghost use Rattle.wasm_spec.specs.Module as plain;
-ghost use Rattle.form_data.specs.Views.{expression_of, table_of, global_of, export_of, items_of, element_of, segment_of, payload_of};
+ghost use Rattle.form_reader.specs.Views.{expression_of, table_of, global_of, export_of, items_of, element_of, segment_of, payload_of};
 ghost use Rattle.segment_tables.specs.References.{referred_by, referred, table_references, global_references, export_references, item_references, element_references, data_references, section_references, module_references, Listed};
 
 use entity_map::OutOfMemory;
-use form_data::{
+use form_reader::{
     ConstExpr, DataKind, DataSegment, Element, ElementItems, ElementKind, Export, GlobalDef,
     Payload, TableDef,
 };

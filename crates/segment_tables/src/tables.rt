@@ -2,7 +2,7 @@
 
 ghost use Rattle.std.specs.Prelude.{IfOk, IfErr};
 ghost use Rattle.wasm_spec.specs.Module.{Module};
-ghost use Rattle.form_data.specs.Views.{module_of};
+ghost use Rattle.form_reader.specs.Views.{module_of};
 ghost use Rattle.module_environ.specs.Readable.{IsReadable};
 ghost use Rattle.segment_tables.specs.Tables.{TellsSegments, TellsSegmentsOf};
 ghost use Rattle.segment_tables.specs.Causes.{HasReadCause, SucceedsOrNoMemory};
@@ -13,8 +13,7 @@ use crate::expressions::{expressions_record, no_expressions};
 use crate::references::references_of;
 use crate::segment_rows::SegmentsRecord;
 use entity_map::OutOfMemory;
-use form_data::Form;
-use form_reader::{ReadError, read_module};
+use form_reader::{Form, ReadError, read_module};
 use std::alloc::Global;
 
 /// The segments of a module, and the functions that `ref.func` in its bodies may name (core

@@ -6,8 +6,8 @@ use Rattle.rule_spec.specs.Lists.{lists_of_module}
 use Rattle.rule_spec.specs.Rules.{Satisfies}
 use Rattle.form_reader.proofs.SectionLaws.{module_once}
 use Rattle.form_reader.proofs.Outcomes.{spells_or_stops}
-use Rattle.plan.specs.declared.error.TranslateError.{TranslateError}
-use Rattle.plan.specs.declared.error.TranslateError.TheVariants as refusal
+use Rattle.plan_text.specs.declared.error.TranslateError.{TranslateError}
+use Rattle.plan_text.specs.declared.error.TranslateError.TheVariants as refusal
 use Rattle.translate.specs.Options.{Options}
 use Rattle.translate.specs.Planned.{KeepsAnd, HasMuchData, HasCause}
 use Rattle.translate.specs.Valid.{IsValid}

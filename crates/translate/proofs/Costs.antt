@@ -18,7 +18,7 @@ use Rattle.replay_spec.specs.Plan.{MemoryPlan}
 use Rattle.replay_spec.specs.Startup.{passive_elements}
 use Rattle.replay_spec.specs.Images.{ImageMemory, image_memory_of, size_of, MemoryImage, image_bytes, bytes_on, data_size, written_on, IsImage, IsPlaced, PlansImages, PlansSegments}
 use Rattle.replay_spec.proofs.Placed.{all-at, covers-nonzero}
-use Rattle.form_data.specs.Views.{body_of}
+use Rattle.form_reader.specs.Views.{body_of}
 use Rattle.form_reader.proofs.Entries.{sections_few, imported_few, total_members}
 use Rattle.init_plan.specs.declared.translation.ModuleTranslation.{ModuleTranslation}
 use Rattle.init_plan.specs.Views.{memory_plan_of}
@@ -30,7 +30,7 @@ use Rattle.module_types.specs.Views.{interned_of}
 use Rattle.module_types.proofs.NamingEarlier.{keeps-earlier}
 use Rattle.module_environ.specs.Types.{look_up_in}
 use Rattle.module_environ.proofs.DeclaredLooks.{listed-long}
-use Rattle.plan.specs.declared.plan.Plan.{Plan}
+use Rattle.plan_text.specs.declared.plan.Plan.{Plan}
 use Rattle.translate.specs.Options.{InitOptions, Options, images, passive_bytes, startup_by, runs}
 use Rattle.translate.specs.Initialised.{IsInitialised, OnlyInitChanges}
 use Rattle.translate.specs.Planned.{IsPlanned}

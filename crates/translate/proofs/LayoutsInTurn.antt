@@ -9,9 +9,9 @@ use Rattle.wasm_types.specs.declared.sub.WasmSubType.{WasmSubType}
 use Rattle.gc_layout.specs.declared.object.GcLayout.{GcLayout}
 use Rattle.gc_layout.specs.declared.error.LayoutError.{LayoutError}
 use Rattle.gc_layout.specs.declared.error.LayoutError.TheVariants as layout
-use Rattle.plan.specs.Errors.{error_of_layout}
-use Rattle.plan.specs.declared.error.TranslateError.{TranslateError}
-use Rattle.plan.specs.declared.error.TranslateError.TheVariants as refusal
+use Rattle.plan_text.specs.Errors.{error_of_layout}
+use Rattle.plan_text.specs.declared.error.TranslateError.{TranslateError}
+use Rattle.plan_text.specs.declared.error.TranslateError.TheVariants as refusal
 use Rattle.gc_layout.specs.Objects.{ObjectLayout, object_layout, gc_layout_of, fixed_size}
 
 abbrev layout_by : ℕ → WasmSubType → Option ObjectLayout

@@ -4,7 +4,7 @@ use Rattle.std.proofs.Common.{◌≡◌, ◌∙◌, ◌<◌, ◌≤◌, ℕ, Lis
 use Rattle.std.specs.Prelude.{◌⊎◌}
 use Rattle.std.proofs.lemmas.List.{length-map, get_or-map}
 use Rattle.wasm_spec.specs.Module.{Module}
-use Rattle.type_data.specs.Names.{named}
+use Rattle.type_spec.specs.Names.{named}
 use Rattle.type_spec.specs.Interned.{Interned, Built}
 use Rattle.rule_spec.specs.Rules.{Keeps}
 use Rattle.replay_spec.specs.Plan.{MemoryPlan}
@@ -17,8 +17,8 @@ use Rattle.init_plan.specs.declared.translation.ModuleTranslation.{ModuleTransla
 use Rattle.init_plan.specs.Views.{memory_plan_of}
 use Rattle.init_plan.specs.Tables.{plan_of_tables}
 use Rattle.module_environ.specs.Types.{interned_list}
-use Rattle.plan.specs.declared.error.TranslateError.{TranslateError}
-use Rattle.plan.specs.declared.error.TranslateError.TheVariants as refusal
+use Rattle.plan_text.specs.declared.error.TranslateError.{TranslateError}
+use Rattle.plan_text.specs.declared.error.TranslateError.TheVariants as refusal
 use Rattle.gc_layout.specs.Objects.{gc_layout_of, fixed_size}
 use Rattle.vm_offsets.specs.Context.{context_size}
 use Rattle.vm_offsets.specs.Modules.{module_counts}

@@ -6,8 +6,8 @@ use Rattle.rule_spec.specs.Rules.{Keeps}
 use Rattle.init_plan.specs.declared.error.PlanError.{PlanError}
 use Rattle.init_plan.specs.declared.error.PlanError.TheVariants as plan
 use Rattle.module_environ.specs.Readable.{IsReadable}
-use Rattle.plan.specs.Errors.{error_of_plan}
-use Rattle.plan.specs.declared.error.TranslateError.TheVariants as refusal
+use Rattle.plan_text.specs.Errors.{error_of_plan}
+use Rattle.plan_text.specs.declared.error.TranslateError.TheVariants as refusal
 use Rattle.translate.specs.Options.{InitOptions, Options}
 use Rattle.translate.specs.Planned.{HasMuchData, HasCause}
 use Rattle.translate.specs.Valid.{CanBeInitialised}

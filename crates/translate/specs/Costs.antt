@@ -4,7 +4,7 @@ use Rattle.replay_spec.specs.Tables.{most_cells}
 use Rattle.init_plan.specs.declared.translation.ModuleTranslation.{ModuleTranslation}
 use Rattle.init_plan.specs.Views.{memory_plan_of}
 use Rattle.init_plan.specs.Tables.{plan_of_tables}
-use Rattle.plan.specs.declared.plan.Plan.{Plan}
+use Rattle.plan_text.specs.declared.plan.Plan.{Plan}
 use Rattle.translate.specs.Options.{InitOptions}
 
 -- how many entries these lists of a translation have in sum: the index spaces, exports, element

@@ -14,9 +14,9 @@ use Rattle.gc_layout.specs.Objects.{object_layout, gc_layout_of}
 use Rattle.vm_offsets.specs.Layouts.{fields_of}
 use Rattle.module_environ.specs.Readable.{IsReadable, Breaks}
 use Rattle.module_environ.specs.Types.{interned_list}
-use Rattle.plan.specs.declared.plan.Plan.{Plan}
-use Rattle.plan.specs.declared.error.TranslateError.{TranslateError}
-use Rattle.plan.specs.declared.error.TranslateError.TheVariants as refusal
+use Rattle.plan_text.specs.declared.plan.Plan.{Plan}
+use Rattle.plan_text.specs.declared.error.TranslateError.{TranslateError}
+use Rattle.plan_text.specs.declared.error.TranslateError.TheVariants as refusal
 use Rattle.translate.specs.Options.{InitOptions, Options, header_size, startup_by, runs, HasDataSize}
 use Rattle.translate.specs.Contexts.{context_of, HasSizes, Overflows}
 use Rattle.translate.specs.Initialised.{IsInitialised}

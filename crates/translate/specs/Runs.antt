@@ -4,9 +4,9 @@ use Rattle.devices.specs.Device.{NothingLeft, AppendsFront, AppendsPart}
 use Rattle.module_generator.specs.Generated.{generated_module}
 use Rattle.command_words.specs.declared.command.Command.{Command}
 use Rattle.command_words.specs.Commands.{Names}
-use Rattle.plan.specs.declared.plan.Plan.{Plan}
-use Rattle.plan.specs.declared.error.TranslateError.{TranslateError}
-use Rattle.plan.specs.declared.error.TranslateError.TheVariants.{TooLarge, OutOfMemory}
+use Rattle.plan_text.specs.declared.plan.Plan.{Plan}
+use Rattle.plan_text.specs.declared.error.TranslateError.{TranslateError}
+use Rattle.plan_text.specs.declared.error.TranslateError.TheVariants.{TooLarge, OutOfMemory}
 use Rattle.plan_text.specs.PlanText.{text_of_plan}
 use Rattle.plan_text.specs.Summary.{summary_of}
 use Rattle.plan_text.specs.Refusals.{text_of_refusal}

@@ -16,8 +16,7 @@ use crate::translating::translate_module;
 use command_words::Command;
 use devices::{Sink, write_all};
 use entity_map::OutOfMemory;
-use plan::{Plan, TranslateError};
-use plan_text::{plan_text, refusal_line, summary_text};
+use plan_text::{Plan, TranslateError, plan_text, refusal_line, summary_text};
 use std::alloc::Global;
 
 /// The plan of the bytes, or their refusal, with its text written. The bytes are the complete input

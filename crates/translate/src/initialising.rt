@@ -13,7 +13,7 @@ use form_types::Validator;
 use init_plan::ModuleTranslation;
 use module_environ::ModuleEnvironment;
 use module_types::ModuleTypesBuilder;
-use plan::TranslateError;
+use plan_text::TranslateError;
 use replay_spec::startup_law;
 use std::alloc::Global;
 use wasm_index::StaticModuleIndex;

@@ -8,9 +8,9 @@ ghost use Rattle.translate.specs.Contexts.{context_of};
 ghost use Rattle.translate.specs.Options.{InitOptions, Options, PlansMemories, PlansTables, startup_by};
 ghost use Rattle.translate.specs.Planned.{HasCause, HasMuchData};
 ghost use Rattle.translate.specs.Valid.{IsValid};
-ghost use Rattle.plan.specs.declared.error.TranslateError.{TranslateError};
+ghost use Rattle.plan_text.specs.declared.error.TranslateError.{TranslateError};
 
-use plan::TranslateError;
+use plan_text::TranslateError;
 use replay_spec::{memory_plan_exists_laws, table_plan_exists_law};
 
 /// Each module has a plan of its memories and one of its tables, and all its plans give the same

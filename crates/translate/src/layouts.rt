@@ -8,7 +8,7 @@ use command_words::Collector;
 use entity_map::PrimaryMap;
 use gc_layout::{DrcTypeLayouts, GcLayout, GcTypeLayouts, NullTypeLayouts};
 use module_types::ModuleTypes;
-use plan::TranslateError;
+use plan_text::TranslateError;
 use std::alloc::Global;
 use wasm_index::ModuleInternedTypeIndex;
 

@@ -33,8 +33,7 @@ pub use devices::{
 };
 pub use laws::{causes_law, sizes_law};
 pub use module_generator::generate;
-pub use plan::{Plan, TranslateError};
-pub use plan_text::{plan_text, refusal_line, summary_text};
+pub use plan_text::{Plan, TranslateError, plan_text, refusal_line, summary_text};
 pub use running::{Report, run};
 pub use status::{NO_MEMORY, READ_FAILED, REFUSED, SUCCESS, USAGE, WRITE_FAILED};
 pub use translating::translate_module;

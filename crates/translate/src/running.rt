@@ -13,7 +13,7 @@ use crate::status::{NO_MEMORY, READ_FAILED, USAGE};
 use command_words::{Command, read_words};
 use devices::{ReadStop, Sink, Source, read_all};
 use module_generator::generate;
-use plan::{Plan, TranslateError};
+use plan_text::{Plan, TranslateError};
 use std::alloc::Global;
 use wasm_form::MAX_MODULE_SIZE;
 

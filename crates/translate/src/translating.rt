@@ -13,7 +13,7 @@ use crate::layouts::layouts_for;
 use command_words::Collector;
 use form_types::Validator;
 use module_types::ModuleTypesBuilder;
-use plan::{Plan, TranslateError};
+use plan_text::{Plan, TranslateError};
 use std::alloc::Global;
 use vm_offsets::VMOffsets;
 use wasm_types::Tunables;

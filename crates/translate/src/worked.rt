@@ -3,7 +3,7 @@
 ghost use Rattle.std.specs.Prelude.{◌≡◌, [], ◌∷◌, ◌++◌, replicate, Some};
 ghost use Rattle.rule_spec.specs.WorkedKept.{overlap_bytes};
 ghost use Rattle.init_plan.specs.Views.{memory_plan_of};
-ghost use Rattle.plan.specs.declared.plan.Plan.{Plan};
+ghost use Rattle.plan_text.specs.declared.plan.Plan.{Plan};
 ghost use Rattle.translate.specs.Planned.{IsPlanned};
 ghost use Rattle.translate.specs.Worked.{cow_options};
 

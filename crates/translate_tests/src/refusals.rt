@@ -1,7 +1,6 @@
 //! The lines of refusals that no small module reaches.
 
-use plan::TranslateError;
-use plan_text::refusal_line;
+use plan_text::{TranslateError, refusal_line};
 
 #[test]
 fn too_large_objects_have_their_line(rt: HostRuntime) {

@@ -2,8 +2,8 @@
 use Rattle.std.proofs.Common.{ℕ, List, length, ◌^◌, ◌≤◌, Option, Some, None, IsNone, inl, inr}
 use Rattle.command_words.specs.declared.command.Command.{Command}
 use Rattle.devices.specs.Device.{TellsFront}
-use Rattle.plan.specs.declared.plan.Plan.{Plan}
-use Rattle.plan.specs.declared.error.TranslateError.{TranslateError}
+use Rattle.plan_text.specs.declared.plan.Plan.{Plan}
+use Rattle.plan_text.specs.declared.error.TranslateError.{TranslateError}
 use Rattle.translate.specs.Runs.{IsSuccess, IsRefusal, IsCutShort}
 use Rattle.translate_tool.specs.Ends.{HasPlanned, HasRefused, HasPrintedPart, Gains}
 use Rattle.translate_tool.proofs.Given.{IsGiven-whole, IsGiven-front}

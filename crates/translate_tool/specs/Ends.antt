@@ -4,8 +4,8 @@ use Rattle.std.specs.Prelude.{◌≡◌, ◌⊎◌, ◌^◌, ⊤, ℕ, List, tak
 use Rattle.devices.specs.Device.{AppendsFront, AppendsPart}
 use Rattle.module_generator.specs.Generated.{generated_module}
 use Rattle.command_words.specs.declared.command.Command.{Command}
-use Rattle.plan.specs.declared.plan.Plan.{Plan}
-use Rattle.plan.specs.declared.error.TranslateError.{TranslateError}
+use Rattle.plan_text.specs.declared.plan.Plan.{Plan}
+use Rattle.plan_text.specs.declared.error.TranslateError.{TranslateError}
 use Rattle.plan_text.specs.Refusals.{text_of_refusal}
 use Rattle.translate.specs.Options.{options_of}
 use Rattle.translate.specs.Planned.{IsPlanned}

@@ -6,8 +6,8 @@ use Rattle.std.proofs.lemmas.List.Elements.{All-map}
 use Rattle.std.proofs.lemmas.Option.{slice_get_within, get_or_from_slice_get}
 use Rattle.form_types.proofs.AllOf.{All-from_map}
 use Rattle.wasm_spec.specs.TypeData.{map_group, map_sub_type, group_edges}
-use Rattle.type_data.specs.Names.{named, by_name, index_of as index_in}
-use Rattle.type_data.specs.TypeShapes.{group_shape}
+use Rattle.type_spec.specs.Names.{named, by_name, index_of as index_in}
+use Rattle.type_spec.specs.TypeShapes.{group_shape}
 use Rattle.type_spec.specs.Interned.{Span}
 use Rattle.wasm_types.specs.declared.index.EngineOrModuleTypeIndex.{EngineOrModuleTypeIndex}
 use Rattle.wasm_types.specs.TypeViews.{sub_type_of, group_of}

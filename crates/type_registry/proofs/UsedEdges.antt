@@ -6,10 +6,10 @@ use Rattle.std.proofs.lemmas.List.Elements.{All-nil, All-cons, All-map, All-weak
 use Rattle.std.proofs.lemmas.Bool.{ltb-true, ltb-false}
 use Rattle.std.proofs.lemmas.List.{get_or_append_left, get_or-append_right}
 use Rattle.wasm_spec.specs.TypeData.{Group, map_group, map_sub_type, group_edges, sub_type_edges}
-use Rattle.type_data.specs.Names.{named, by_name, alike-mapped, index_of as index_in}
-use Rattle.type_data.specs.Shapes.{erased}
-use Rattle.type_data.specs.ListLaws.{map-twice}
-use Rattle.type_data.specs.TypeShapes.{group_shape}
+use Rattle.type_spec.specs.Names.{named, by_name, alike-mapped, index_of as index_in}
+use Rattle.type_spec.specs.Shapes.{erased}
+use Rattle.type_spec.specs.ListLaws.{map-twice}
+use Rattle.type_spec.specs.TypeShapes.{group_shape}
 use Rattle.type_spec.specs.Interned.{Span}
 use Rattle.wasm_types.specs.declared.index.EngineOrModuleTypeIndex.{EngineOrModuleTypeIndex}
 use Rattle.form_types.proofs.AllOf.{All-joined}

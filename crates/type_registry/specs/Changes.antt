@@ -4,7 +4,7 @@ use Rattle.std.specs.List.{list_any}
 use Rattle.std.specs.Map.{lookup, set_value, remove_entry}
 use Rattle.wasm_spec.specs.TypeData as types
 use Rattle.wasm_spec.specs.TypeData.{map_group, group_edges}
-use Rattle.type_data.specs.Names.{named, index_of as index_in}
+use Rattle.type_spec.specs.Names.{named, index_of as index_in}
 use Rattle.type_spec.specs.Interned.{Span}
 use Rattle.wasm_index.specs.Index.{number_of, index_of}
 use Rattle.wasm_types.specs.declared.index.EngineOrModuleTypeIndex.{EngineOrModuleTypeIndex}

@@ -4,7 +4,7 @@ use Rattle.std.specs.List.{flat_map, zip}
 use Rattle.std.specs.Map.{lookup}
 use Rattle.std.specs.Option.{option_map}
 use Rattle.wasm_spec.specs.TypeData.{SubType, map_sub_type, sub_type_edges}
-use Rattle.type_data.specs.Names.{named, index_of as index_in}
+use Rattle.type_spec.specs.Names.{named, index_of as index_in}
 use Rattle.wasm_index.specs.Index.{number_of, index_of}
 use Rattle.wasm_types.specs.declared.index.EngineOrModuleTypeIndex.{EngineOrModuleTypeIndex}
 use Rattle.wasm_types.specs.declared.index.EngineOrModuleTypeIndex.TheVariants as index

@@ -2,7 +2,7 @@
 
 ghost use Rattle.std.specs.Prelude.{◌≡◌, ◌<◌, ◌≤◌, All, IfOk, length, map};
 ghost use Rattle.wasm_spec.specs.TypeData.{map_group};
-ghost use Rattle.type_data.specs.Names.{named};
+ghost use Rattle.type_spec.specs.Names.{named};
 ghost use Rattle.wasm_index.specs.Index.{number_of};
 ghost use Rattle.wasm_types.specs.TypeViews.{group_of};
 ghost use Rattle.wasm_trace.specs.Canonical.{CanBeConsedEdge, CanBeRuntimeEdge, runtime_edge};

@@ -4,9 +4,9 @@ use Rattle.std.specs.List.{AllZip, All}
 use Rattle.std.proofs.lemmas.List.{get_or-map}
 use Rattle.std.proofs.lemmas.List.Elements.{All-head, All-tail}
 use Rattle.wasm_spec.specs.TypeData.{Composite, Func, Array, Struct, Cont, Exn, SubType, Group, map_composite, map_sub_type, map_group}
-use Rattle.type_data.specs.Shapes.{erased}
-use Rattle.type_data.specs.TypeShapes.{group_shape}
-use Rattle.type_data.specs.Names.{NameKind, Named, index_of, plainly, Alike, alike-mapped, mapped-alike}
+use Rattle.type_spec.specs.Shapes.{erased}
+use Rattle.type_spec.specs.TypeShapes.{group_shape}
+use Rattle.type_spec.specs.Names.{NameKind, Named, index_of, plainly, Alike, alike-mapped, mapped-alike}
 use Rattle.type_spec.specs.Equality.{home, SameType}
 use Rattle.type_spec.specs.Interned.{kind_of_type, kind_at}
 use Rattle.type_spec.proofs.Equivalence.{type-groups}

@@ -1,8 +1,8 @@
 -- Canonical groups are equal exactly where the groups are.
 use Rattle.std.proofs.Common.{◌≡◌, ◌↔◌, ℕ, ◌-◌, ◌<◌, Bool, true, false, nat_le, ap, refl}
 use Rattle.std.proofs.lemmas.Bool.{leb-false}
-use Rattle.type_data.specs.TypeShapes.{group_shape}
-use Rattle.type_data.specs.Names.{plainly, Alike, alike-mapped, mapped-alike, zip-becomes}
+use Rattle.type_spec.specs.TypeShapes.{group_shape}
+use Rattle.type_spec.specs.Names.{plainly, Alike, alike-mapped, mapped-alike, zip-becomes}
 use Rattle.type_spec.specs.Equality.{Inside, Earlier, target_by, target, Home, SameTarget, SameGroup, canonical}
 
 -- alike by one relation is alike by another that follows from it

@@ -5,8 +5,8 @@ use Rattle.std.specs.List.{AllZip}
 use Rattle.std.proofs.lemmas.Bool.{ltb-false, leb-false}
 use Rattle.std.proofs.lemmas.List.{length-map}
 use Rattle.wasm_spec.specs.TypeData.{Group}
-use Rattle.type_data.specs.TypeShapes.{group_shape}
-use Rattle.type_data.specs.Names.{plainly, zip-becomes}
+use Rattle.type_spec.specs.TypeShapes.{group_shape}
+use Rattle.type_spec.specs.Names.{plainly, zip-becomes}
 use Rattle.type_spec.specs.Equality.{Target, Inside, Earlier, target, target_by, Home, home_from, home, SameTarget, SameGroup, SameDown, SameType}
 
 -- ---- lists one by one

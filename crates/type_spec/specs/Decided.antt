@@ -5,8 +5,8 @@ use Rattle.std.specs.List.{AllZip}
 use Rattle.std.specs.Cmp.Lexicographic.{pointwise}
 use Rattle.std.proofs.lemmas.Bool.Decides.{Decides-and, Decides-eqb}
 use Rattle.wasm_spec.specs.TypeData.{Group}
-use Rattle.type_data.specs.TypeShapes.{group_shape}
-use Rattle.type_data.specs.Names.{plainly, frame}
+use Rattle.type_spec.specs.TypeShapes.{group_shape}
+use Rattle.type_spec.specs.Names.{plainly, frame}
 use Rattle.type_spec.specs.Same.{same_frame}
 use Rattle.type_spec.specs.Equality.{Target, Inside, Earlier, target, Home, home, SameTarget, SameGroup, SameDown, SameType, same_target, same_edge, same_group, same_down, same_type}
 use Rattle.type_spec.specs.Tests.{frame-decides}

@@ -3,7 +3,7 @@
 use Rattle.std.specs.Prelude.{◌≡◌, ℕ, zero, suc, ◌+◌, ◌-◌, Bool, true, false, nat_eq, nat_le, nat_lt, ◌&&◌, List, [], ◌∷◌, length, if◌then◌else◌}
 use Rattle.std.specs.Cmp.Lexicographic.{pointwise}
 use Rattle.wasm_spec.specs.TypeData.{Group, map_group, group_edges}
-use Rattle.type_data.specs.Shapes.{erased, AreAlike}
+use Rattle.type_spec.specs.Shapes.{erased, AreAlike}
 use Rattle.type_spec.specs.Same.{same_frame}
 
 -- a reference of a group that starts at a position of the joined list: to a position in the group,

@@ -4,9 +4,9 @@ use Rattle.std.specs.Prelude.{◌≡◌, ℕ, zero, suc, ◌+◌, ◌-◌, get_o
 use Rattle.std.specs.Bool.{Decides}
 use Rattle.std.specs.List.{fold}
 use Rattle.wasm_spec.specs.TypeData.{Heap, Concrete, Abstract, Value, Ref, Val, Field, Function, Composite, Func, Array, Struct, Cont, Exn, SubType, Group, map_function, map_group}
-use Rattle.type_data.specs.Shapes.{erased}
-use Rattle.type_data.specs.Tops.{top}
-use Rattle.type_data.specs.Names.{NameKind, FuncName, ArrayName, StructName, ContName, ExnName, Named}
+use Rattle.type_spec.specs.Shapes.{erased}
+use Rattle.type_spec.specs.Tops.{top}
+use Rattle.type_spec.specs.Names.{NameKind, FuncName, ArrayName, StructName, ContName, ExnName, Named}
 use Rattle.type_spec.specs.Same.{same_function}
 use Rattle.type_spec.specs.Tests.{function-decides}
 use Rattle.type_spec.specs.Equality.{Home, home}

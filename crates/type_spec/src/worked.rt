@@ -2,7 +2,7 @@
 
 ghost use Rattle.std.specs.Prelude.{◌≡◌, [], ◌∷◌, ◌++◌, true, false, Some, None};
 ghost use Rattle.wasm_spec.specs.TypeData.{Abstract, Concrete, Func, Exn, Val};
-ghost use Rattle.type_data.specs.Names.{FuncName};
+ghost use Rattle.type_spec.specs.Names.{FuncName};
 ghost use Rattle.type_spec.specs.Equality.{same_type};
 ghost use Rattle.type_spec.specs.Interned.{interned, taken, plain, startup_type};
 ghost use Rattle.type_spec.specs.TakenGroups.{taken_groups};

@@ -1,7 +1,7 @@
 -- The items of two concatenated lists, each converted: the parts where the lists join.
 use Rattle.std.proofs.Common.{◌≡◌, ◌∙◌, List, ◌++◌, length, map, take, drop, refl, sym, ap}
 use Rattle.std.proofs.lemmas.List.{map-append, length-map, take-map, drop-map}
-use Rattle.type_data.specs.ListLaws.{map-twice}
+use Rattle.type_spec.specs.ListLaws.{map-twice}
 use Rattle.std.proofs.Math.Seq.{take-append_seam, drop-append_seam}
 
 module _ {A B : Type 0} (f : A → B) (ps rs : List A) where

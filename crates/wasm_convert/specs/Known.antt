@@ -4,7 +4,7 @@ use Rattle.wasm_spec.specs.declared.types.UnpackedIndex.{UnpackedIndex}
 use Rattle.wasm_spec.specs.declared.types.UnpackedIndex.TheVariants as index
 use Rattle.wasm_spec.specs.declared.types.HeapType.{HeapType}
 use Rattle.wasm_spec.specs.TypeData.{Function, Composite, Func, Cont, heap_of, heap_edges}
-use Rattle.type_data.specs.Names.{FuncName}
+use Rattle.type_spec.specs.Names.{FuncName}
 use Rattle.wasm_convert.specs.Conversion.{LookUp}
 
 module _ (known : UnpackedIndex → Type 0) where

@@ -103,7 +103,7 @@ impl ConstExpr {
     pub fn from_wasmparser(
         alloc: Global,
         env: &dyn TypeConvert,
-        expr: &form_data::ConstExpr,
+        expr: &form_reader::ConstExpr,
     ) -> Result<(Self, SmallVec<FuncIndex, 1>), OutOfMemory>
         requires some { 0 < length expr.now.ops.items }
         requires known { All (KnowsOperator (knows env.now)) expr.now.ops.items }

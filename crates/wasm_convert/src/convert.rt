@@ -4,9 +4,9 @@ ghost use Rattle.std.specs.Prelude.{◌≡◌, IfOk, IfSome, map};
 ghost use Rattle.wasm_spec.specs.declared.types.UnpackedIndex.{UnpackedIndex};
 ghost use Rattle.wasm_spec.specs.TypeData.{Concrete, unshared, heap_edges, reference_edges, value_edges, storage_edges, field_edges, function_edges, composite_edges, sub_type_edges, map_heap, map_reference, map_value, map_storage, map_field, map_function, map_composite, map_sub_type};
 ghost use Rattle.wasm_spec.specs.TypeData as read;
-ghost use Rattle.type_data.specs.Names.{FuncName};
-ghost use Rattle.type_data.specs.TypeShapes.{fields_shape};
-ghost use Rattle.form_data.specs.Views as form;
+ghost use Rattle.type_spec.specs.Names.{FuncName};
+ghost use Rattle.type_spec.specs.TypeShapes.{fields_shape};
+ghost use Rattle.form_reader.specs.Views as form;
 ghost use Rattle.wasm_types.specs.EntityData.{global_edges, table_edges, map_global, map_table};
 ghost use Rattle.wasm_types.specs.EntityViews.{global_of, table_of};
 ghost use Rattle.wasm_types.specs.Indices.{cont_index};
@@ -16,7 +16,7 @@ ghost use Rattle.wasm_convert.specs.Conversion.{LookUp, index_in, global_type_of
 ghost use Rattle.wasm_convert.specs.Known.{CanLookUp, Known, CanConvert, IsFew};
 
 use entity_map::OutOfMemory;
-use form_data::{CompositeInnerType, FuncType, SubType};
+use form_reader::{CompositeInnerType, FuncType, SubType};
 use std::alloc::Global as Heap;
 use wasm_spec::{
     AbstractHeapType, FieldType, GlobalType, HeapType, RefType, StorageType, TableType,

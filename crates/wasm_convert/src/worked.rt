@@ -5,7 +5,7 @@ ghost use Rattle.wasm_index.specs.Index.{index_of};
 ghost use Rattle.wasm_types.specs.Indices.{cont_of};
 ghost use Rattle.wasm_spec.specs.TypeData as read;
 ghost use Rattle.wasm_spec.specs.TypeData.{map_reference, map_field, map_composite};
-ghost use Rattle.type_data.specs.Names.{FuncName, StructName};
+ghost use Rattle.type_spec.specs.Names.{FuncName, StructName};
 ghost use Rattle.wasm_types.specs.EntityData.{map_table};
 ghost use Rattle.wasm_types.specs.EntityViews.{table_of};
 ghost use Rattle.wasm_types.specs.TypeViews.{composite_of};

@@ -19,12 +19,11 @@
 #![tactic(auto)]
 
 pub use entity_map::OutOfMemory;
-pub use form_data::{
+pub use form_reader::{
     CompositeInnerType, ConstExpr, Counts, Custom, DataKind, DataSegment, Element, ElementItems,
-    ElementKind, Export, Form, FuncType, FunctionBody, GlobalDef, Import, Payload, RecGroup,
-    SubType, TableDef,
+    ElementKind, Export, Form, FuncType, FunctionBody, GlobalDef, Import, MAX_MODULE_SIZE, Payload,
+    ReadError, RecGroup, SubType, TableDef, read_module, spelling_is_unique,
 };
-pub use form_reader::{MAX_MODULE_SIZE, ReadError, read_module, spelling_is_unique};
 pub use form_rules::{CheckError, check};
 pub use form_types::{CoreTypeIds, RecGroupId, Types, Validator, ValidatorId};
 pub use rule_spec::Rule;

@@ -1,9 +1,9 @@
 -- The laws of functions, startups and modules as data: each has a shape, and its view an inverse.
 use Rattle.std.specs.Prelude.{List, [], ◌∷◌, ◌++◌, map}
 use Rattle.std.proofs.Common.{◌≡◌, refl, ap}
-use Rattle.type_data.specs.Names.{alone-determined}
-use Rattle.type_data.specs.Shapes.{Shape, listed, erased}
-use Rattle.type_data.specs.TypeShapes.{both-edges, first-determined, second-determined}
+use Rattle.type_spec.specs.Names.{alone-determined}
+use Rattle.type_spec.specs.Shapes.{Shape, listed, erased}
+use Rattle.type_spec.specs.TypeShapes.{both-edges, first-determined, second-determined}
 use Rattle.wasm_types.specs.declared.index.EngineOrModuleTypeIndex.{EngineOrModuleTypeIndex}
 use Rattle.wasm_types.specs.EntityShapes.{table_shape, global_shape, tag_shape}
 use Rattle.wasm_types.specs.EntityViews.{table_back, global_back, tag_back}

@@ -2,7 +2,7 @@
 
 ghost use Rattle.std.specs.Prelude.{◌≡◌, map};
 ghost use Rattle.std.specs.List.{flat_map};
-ghost use Rattle.type_data.specs.Names.{Named, by_name, frame};
+ghost use Rattle.type_spec.specs.Names.{Named, by_name, frame};
 ghost use Rattle.wasm_types.specs.ViewsTell.{tells};
 ghost use Rattle.wasm_trace.specs.Runs.{Run, MayRun, RunMut, MayRunMut};
 ghost use Rattle.wasm_module.specs.ModuleData.{FunctionData, StartupData, ModuleData, function_of, startup_of, module_data_of};

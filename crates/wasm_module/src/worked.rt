@@ -6,7 +6,7 @@ ghost use Rattle.wasm_index.specs.declared.index.Index.{Index};
 ghost use Rattle.wasm_index.specs.declared.spaces.DefinedFuncSpace.{DefinedFuncSpace};
 ghost use Rattle.wasm_index.specs.declared.spaces.FuncSpace.{FuncSpace};
 ghost use Rattle.wasm_types.specs.declared.memory.Memory.{Memory};
-ghost use Rattle.type_data.specs.Names.{Named, by_name};
+ghost use Rattle.type_spec.specs.Names.{Named, by_name};
 ghost use Rattle.wasm_module.specs.declared.module.Module.{Module};
 ghost use Rattle.wasm_types.specs.declared.index.EngineOrModuleTypeIndex.{EngineOrModuleTypeIndex};
 ghost use Rattle.wasm_module.specs.ModuleData.{ModuleData, AlwaysStarts};

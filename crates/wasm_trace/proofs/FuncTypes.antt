@@ -5,9 +5,9 @@ use Rattle.std.proofs.lemmas.Grind.{flat_map-append}
 use Rattle.std.proofs.lemmas.List.{map-append, take-append-drop, take-map, drop-map}
 use Rattle.std.proofs.Math.Seq.{take-append_seam, drop-append_seam}
 use Rattle.wasm_spec.specs.TypeData.{function_edges, value_edges, map_function, map_value}
-use Rattle.type_data.specs.Shapes.{erased}
-use Rattle.type_data.specs.Names.{index_of, named}
-use Rattle.type_data.specs.ListLaws.{map-twice}
+use Rattle.type_spec.specs.Shapes.{erased}
+use Rattle.type_spec.specs.Names.{index_of, named}
+use Rattle.type_spec.specs.ListLaws.{map-twice}
 use Rattle.wasm_types.specs.declared.value.WasmValType.{WasmValType}
 use Rattle.wasm_types.specs.Parts.{FuncParts, split_types}
 use Rattle.wasm_types.specs.ValueViews.{value_of}

@@ -2,8 +2,8 @@
 
 ghost use Rattle.std.specs.Prelude.{List};
 ghost use Rattle.wasm_spec.specs.TypeData.{Field, Exception};
-ghost use Rattle.type_data.specs.TypeShapes.{fields_shape, exception_shape};
-ghost use Rattle.type_data.specs.Names.{Named, by_name};
+ghost use Rattle.type_spec.specs.TypeShapes.{fields_shape, exception_shape};
+ghost use Rattle.type_spec.specs.Names.{Named, by_name};
 ghost use Rattle.wasm_types.specs.TypeViews.{struct_of, exception_of};
 ghost use Rattle.wasm_types.specs.ViewsTell.{tells, struct_back, exception_back};
 

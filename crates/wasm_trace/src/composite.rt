@@ -3,9 +3,9 @@
 ghost use Rattle.std.specs.Prelude.{◌≡◌};
 ghost use Rattle.std.specs.Option.{option_map, option_to_list};
 ghost use Rattle.wasm_spec.specs.TypeData.{Shared, SubType, Group, map_composite, composite_edges};
-ghost use Rattle.type_data.specs.Shapes.{erased};
-ghost use Rattle.type_data.specs.TypeShapes.{shared_shape, sub_type_shape, group_shape};
-ghost use Rattle.type_data.specs.Names.{Named, by_name, named, index_of};
+ghost use Rattle.type_spec.specs.Shapes.{erased};
+ghost use Rattle.type_spec.specs.TypeShapes.{shared_shape, sub_type_shape, group_shape};
+ghost use Rattle.type_spec.specs.Names.{Named, by_name, named, index_of};
 ghost use Rattle.wasm_types.specs.TypeViews.{composite_of, shared_of, sub_type_of, group_of};
 ghost use Rattle.wasm_types.specs.ViewsTell.{tells, shared_back, sub_type_back, group_back};
 ghost use Rattle.wasm_trace.specs.Runs.{Run, MayRun, RunMut, MayRunMut};

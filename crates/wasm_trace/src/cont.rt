@@ -1,6 +1,6 @@
 //! The edge of a continuation type.
 
-ghost use Rattle.type_data.specs.Names.{reference_alone};
+ghost use Rattle.type_spec.specs.Names.{reference_alone};
 ghost use Rattle.wasm_types.specs.Indices.{cont_index};
 ghost use Rattle.wasm_types.specs.ViewsTell.{tells, cont_back};
 

@@ -1,6 +1,6 @@
 //! The edges of globals, tables, tags and the types of entities.
 
-ghost use Rattle.type_data.specs.Names.{Named, by_name};
+ghost use Rattle.type_spec.specs.Names.{Named, by_name};
 ghost use Rattle.wasm_types.specs.EntityData.{GlobalData, TableData, TagData, EntityData};
 ghost use Rattle.wasm_types.specs.EntityShapes.{global_shape, table_shape, tag_shape, entity_shape};
 ghost use Rattle.wasm_types.specs.EntityViews.{global_of, table_of, tag_of, entity_of, global_back, table_back, tag_back, entity_back};

@@ -1,8 +1,8 @@
 //! The edges of storage, field and array types.
 
 ghost use Rattle.wasm_spec.specs.TypeData.{Storage, Field};
-ghost use Rattle.type_data.specs.TypeShapes.{storage_shape, field_shape};
-ghost use Rattle.type_data.specs.Names.{Named, by_name};
+ghost use Rattle.type_spec.specs.TypeShapes.{storage_shape, field_shape};
+ghost use Rattle.type_spec.specs.Names.{Named, by_name};
 ghost use Rattle.wasm_types.specs.ValueViews.{storage_of, field_of};
 ghost use Rattle.wasm_types.specs.TypeViews.{array_of};
 ghost use Rattle.wasm_types.specs.ViewsTell.{tells, storage_back, field_back, array_back};

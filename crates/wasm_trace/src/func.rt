@@ -1,8 +1,8 @@
 //! The edges of a function type.
 
 ghost use Rattle.wasm_spec.specs.TypeData.{Function};
-ghost use Rattle.type_data.specs.TypeShapes.{function_shape};
-ghost use Rattle.type_data.specs.Names.{Named, by_name};
+ghost use Rattle.type_spec.specs.TypeShapes.{function_shape};
+ghost use Rattle.type_spec.specs.Names.{Named, by_name};
 ghost use Rattle.wasm_types.specs.TypeViews.{function_of};
 ghost use Rattle.wasm_types.specs.ViewsTell.{tells, function_back};
 

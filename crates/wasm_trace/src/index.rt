@@ -1,6 +1,6 @@
 //! The one edge of a type index.
 
-ghost use Rattle.type_data.specs.Names.{reference_alone};
+ghost use Rattle.type_spec.specs.Names.{reference_alone};
 
 use crate::trace::TypeTrace;
 use wasm_types::EngineOrModuleTypeIndex;

@@ -1,7 +1,7 @@
 //! What holds of every run of visits, and of every value that has edges.
 
 ghost use Rattle.std.specs.Prelude.{◌≡◌, ◌↔◌, ℕ, List, ◌++◌, Result};
-ghost use Rattle.type_data.specs.Names.{Alike, frame};
+ghost use Rattle.type_spec.specs.Names.{Alike, frame};
 ghost use Rattle.wasm_types.specs.declared.index.EngineOrModuleTypeIndex.{EngineOrModuleTypeIndex};
 ghost use Rattle.wasm_index.specs.declared.index.Index.{Index};
 ghost use Rattle.wasm_index.specs.declared.spaces.VMSharedTypeSpace.{VMSharedTypeSpace};

@@ -1,7 +1,7 @@
 //! The trait of values that have edges to types.
 
 ghost use Rattle.std.specs.Prelude.{◌≡◌, ◌↔◌, IsTrue, IsSome, None, List, All};
-ghost use Rattle.type_data.specs.Names.{Traced, Alike, frame};
+ghost use Rattle.type_spec.specs.Names.{Traced, Alike, frame};
 ghost use Rattle.wasm_index.specs.Index.{number_of};
 ghost use Rattle.wasm_index.specs.declared.index.Index.{Index};
 ghost use Rattle.wasm_index.specs.declared.spaces.VMSharedTypeSpace.{VMSharedTypeSpace};

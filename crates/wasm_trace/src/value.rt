@@ -1,8 +1,8 @@
 //! The edges of heap, reference and value types.
 
 ghost use Rattle.wasm_spec.specs.TypeData.{Heap, Reference, Value};
-ghost use Rattle.type_data.specs.TypeShapes.{heap_shape, reference_shape, value_shape};
-ghost use Rattle.type_data.specs.Names.{Named, by_name};
+ghost use Rattle.type_spec.specs.TypeShapes.{heap_shape, reference_shape, value_shape};
+ghost use Rattle.type_spec.specs.Names.{Named, by_name};
 ghost use Rattle.wasm_types.specs.ValueViews.{heap_of, reference_of, value_of};
 ghost use Rattle.wasm_types.specs.ViewsTell.{tells, heap_back, reference_back, value_back};
 

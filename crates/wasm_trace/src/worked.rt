@@ -2,7 +2,7 @@
 
 ghost use Rattle.std.specs.Prelude.{◌≡◌, ◌+◌, [], ◌∷◌, true, false, Some};
 ghost use Rattle.wasm_spec.specs.TypeData.{sub_type_edges, map_function};
-ghost use Rattle.type_data.specs.Names.{index_of as index_in, named};
+ghost use Rattle.type_spec.specs.Names.{index_of as index_in, named};
 ghost use Rattle.wasm_index.specs.Index.{index_of, number_of};
 ghost use Rattle.wasm_types.specs.EntityData.{tag_edges, map_entity, entity_edges};
 ghost use Rattle.wasm_types.specs.EntityViews.{tag_of, entity_of};

@@ -1,5 +1,5 @@
 use Rattle.std.proofs.Common.{◌≡◌, ◌++◌, map}
-use Rattle.form_data.specs.Views.{payload_of}
+use Rattle.form_reader.specs.Views.{payload_of}
 use Rattle.form_reader.specs.Input.{customs_in}
 use Rattle.form_reader.proofs.input.add_customs.Given as goal
 

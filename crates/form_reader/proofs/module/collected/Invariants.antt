@@ -1,7 +1,7 @@
 use Rattle.std.proofs.Common.{◌≡◌, ◌++◌, map}
 use Rattle.std.specs.List.{flat_map}
 use Rattle.std.specs.Vec.Iter.{into_iter_items}
-use Rattle.form_data.specs.Views.{payload_of}
+use Rattle.form_reader.specs.Views.{payload_of}
 use Rattle.form_reader.specs.Input.{sections_of_part}
 use Rattle.form_reader.proofs.module.collected.Given as goal
 

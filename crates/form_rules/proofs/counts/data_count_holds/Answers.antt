@@ -1,6 +1,6 @@
 use Rattle.std.proofs.Common.{◌≡◌, refl}
 use Rattle.wasm_spec.specs.Module.{data_counts_of_section}
-use Rattle.form_lists.proofs.AllSections.{customs_hold}
+use Rattle.form_rules.proofs.AllSections.{customs_hold}
 use Rattle.form_rules.proofs.counts.data_count_holds.Goals as goal
 
 pub returns-in-Customs : goal.returns-in-Customs

@@ -1,7 +1,7 @@
 use Rattle.std.proofs.Common.{◌≡◌, ℕ, ap, ◌∙◌}
 use Rattle.wasm_spec.specs.Module.{data_counts_of_section}
-use Rattle.form_lists.specs.Source.{sections_in, sections_left}
-use Rattle.form_lists.proofs.AllSections.{left_parts, sections_more, sections_fail}
+use Rattle.form_rules.specs.Source.{sections_in, sections_left}
+use Rattle.form_rules.proofs.AllSections.{left_parts, sections_more, sections_fail}
 use Rattle.form_rules.proofs.counts.data_counts_hold.Goals as goal
 
 pub loop-section-init : goal.loop-section-init

@@ -1,7 +1,7 @@
 use Rattle.std.proofs.Common.{◌≡◌, ◌↔◌, ℕ, All}
 use Rattle.std.specs.List.{flat_map}
 use Rattle.wasm_spec.specs.Module.{data_counts_of_section}
-use Rattle.form_lists.specs.Source.{source_module, sections_left}
+use Rattle.form_rules.specs.Source.{source_module, sections_left}
 use Rattle.form_rules.proofs.counts.data_counts_hold.Given as goal
 
 -- all hold exactly where the remaining ones do

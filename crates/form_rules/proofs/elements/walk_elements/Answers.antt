@@ -1,10 +1,10 @@
 use Rattle.std.proofs.Common.{length}
-use Rattle.form_data.specs.Views.{element_of}
+use Rattle.form_reader.specs.Views.{element_of}
 use Rattle.rule_spec.specs.Expressions.{IsElementTyped}
 use Rattle.rule_spec.specs.Indices.{IsElementInRange}
 use Rattle.rule_spec.specs.References.{ElementRefersIn}
-use Rattle.form_lists.specs.Views.{lists_of}
-use Rattle.form_lists.proofs.Taking.{taken}
+use Rattle.form_rules.specs.Views.{lists_of}
+use Rattle.form_rules.proofs.Taking.{taken}
 use Rattle.form_rules.proofs.Walking.{by_All, asked_more, asked_all}
 use Rattle.form_rules.proofs.elements.walk_elements.Goals as goal
 

@@ -1,12 +1,12 @@
 use Rattle.std.proofs.Common.{◌↔◌, length, All, IsTrue}
 use Rattle.wasm_spec.specs.Module.{elements_of_section}
-use Rattle.form_data.specs.Views.{element_of}
+use Rattle.form_reader.specs.Views.{element_of}
 use Rattle.rule_spec.specs.Expressions.{IsElementTyped}
 use Rattle.rule_spec.specs.Indices.{IsElementInRange}
 use Rattle.rule_spec.specs.References.{ElementRefersIn}
 use Rattle.form_reader.specs.SectionRows.{element_segment}
-use Rattle.form_lists.specs.Walk.{walk_left}
-use Rattle.form_lists.specs.Views.{lists_of}
+use Rattle.form_rules.specs.Walk.{walk_left}
+use Rattle.form_rules.specs.Views.{lists_of}
 use Rattle.form_rules.proofs.elements.walk_elements.Given as goal
 
 -- all hold exactly where those checked so far and the remaining ones do

@@ -1,5 +1,5 @@
 use Rattle.std.proofs.Common.{length}
-use Rattle.form_lists.specs.Views.{lists_of}
+use Rattle.form_rules.specs.Views.{lists_of}
 use Rattle.form_rules.proofs.Constants.{also}
 use Rattle.form_rules.proofs.elements.with_element.Goals as goal
 

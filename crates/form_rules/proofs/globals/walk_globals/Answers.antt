@@ -1,8 +1,8 @@
 use Rattle.std.proofs.Common.{length, ap, arith}
-use Rattle.form_data.specs.Views.{global_of}
+use Rattle.form_reader.specs.Views.{global_of}
 use Rattle.rule_spec.specs.References.{GlobalRefersIn}
-use Rattle.form_lists.specs.Views.{lists_of}
-use Rattle.form_lists.proofs.Taking.{taken}
+use Rattle.form_rules.specs.Views.{lists_of}
+use Rattle.form_rules.proofs.Taking.{taken}
 use Rattle.form_rules.proofs.Walking.{by_All, by_globals, asked_more, asked_all}
 use Rattle.form_rules.proofs.globals.walk_globals.Goals as goal
 

@@ -1,11 +1,11 @@
 use Rattle.std.proofs.Common.{◌↔◌, ◌+◌, ◌≤◌, length, All, IsTrue}
 use Rattle.wasm_spec.specs.Module.{globals_of_section}
-use Rattle.form_data.specs.Views.{global_of}
+use Rattle.form_reader.specs.Views.{global_of}
 use Rattle.rule_spec.specs.Expressions.{AreGlobalsTyped}
 use Rattle.rule_spec.specs.References.{GlobalRefersIn}
 use Rattle.form_reader.specs.SectionRows.{global_entry}
-use Rattle.form_lists.specs.Walk.{walk_left}
-use Rattle.form_lists.specs.Views.{lists_of}
+use Rattle.form_rules.specs.Walk.{walk_left}
+use Rattle.form_rules.specs.Views.{lists_of}
 use Rattle.form_rules.proofs.globals.walk_globals.Given as goal
 
 -- all hold exactly where those checked so far and the remaining ones do

@@ -2,9 +2,9 @@ use Rattle.std.proofs.Common.{◌≡◌}
 use Rattle.std.specs.Hash.DefaultHasher as sip
 use Rattle.std.specs.List.{flat_map, fold}
 use Rattle.wasm_spec.specs.Module.{exports_of_section}
-use Rattle.form_data.specs.Views.{export_of}
-use Rattle.form_lists.specs.Source.{source_module}
-use Rattle.form_lists.specs.Sections.{entries_left}
+use Rattle.form_reader.specs.Views.{export_of}
+use Rattle.form_rules.specs.Source.{source_module}
+use Rattle.form_rules.specs.Sections.{entries_left}
 use Rattle.form_rules.specs.Names.{exported_names}
 use Rattle.form_rules.proofs.names.add_export_names.Given as goal
 

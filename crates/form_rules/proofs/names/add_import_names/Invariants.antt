@@ -2,9 +2,9 @@ use Rattle.std.proofs.Common.{◌≡◌}
 use Rattle.std.specs.Hash.DefaultHasher as sip
 use Rattle.std.specs.List.{flat_map, fold}
 use Rattle.wasm_spec.specs.Module.{imports_of_section}
-use Rattle.form_data.specs.Views.{import_of}
-use Rattle.form_lists.specs.Source.{source_module}
-use Rattle.form_lists.specs.Sections.{entries_left}
+use Rattle.form_reader.specs.Views.{import_of}
+use Rattle.form_rules.specs.Source.{source_module}
+use Rattle.form_rules.specs.Sections.{entries_left}
 use Rattle.form_rules.specs.Names.{import_names, imported_names}
 use Rattle.form_rules.proofs.names.add_import_names.Given as goal
 

@@ -2,7 +2,7 @@ use Rattle.std.proofs.Common.{◌≡◌, ◌∙◌, true, false, sym}
 use Rattle.std.specs.List.{list_any}
 use Rattle.std.specs.Str.{bytes_eq}
 use Rattle.std.proofs.lemmas.Bool.{not-true, not-false}
-use Rattle.form_data.specs.Views.{export_of}
+use Rattle.form_reader.specs.Views.{export_of}
 use Rattle.form_rules.proofs.ExportNames.{gathers-more, gathers-fails}
 use Rattle.form_rules.proofs.names.pool_of_exports.Goals as goal
 

@@ -1,4 +1,4 @@
-use Rattle.form_lists.specs.Views.{lists_of}
+use Rattle.form_rules.specs.Views.{lists_of}
 use Rattle.form_rules.proofs.plain.is_plain_element.Goals as goal
 
 pub returns-then-is_plain_kind-clause-typed : goal.returns-then-is_plain_kind-clause-typed

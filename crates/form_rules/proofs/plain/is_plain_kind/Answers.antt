@@ -1,6 +1,6 @@
 use Rattle.std.proofs.Common.{sym, subst}
-use Rattle.form_data.specs.declared.form.ElementKind.{ElementKind}
-use Rattle.form_data.specs.Views.{element_kind_of}
+use Rattle.form_reader.specs.declared.form.ElementKind.{ElementKind}
+use Rattle.form_reader.specs.Views.{element_kind_of}
 use Rattle.rule_spec.specs.References.{ElementKindRefersIn}
 use Rattle.form_rules.proofs.plain.is_plain_kind.Goals as goal
 

@@ -1,6 +1,6 @@
 use Rattle.std.proofs.Common.{sym, subst}
-use Rattle.form_data.specs.declared.form.DataKind.{DataKind}
-use Rattle.form_data.specs.Views.{data_kind_of}
+use Rattle.form_reader.specs.declared.form.DataKind.{DataKind}
+use Rattle.form_reader.specs.Views.{data_kind_of}
 use Rattle.rule_spec.specs.References.{DataKindRefersIn}
 use Rattle.form_rules.proofs.plain.is_plain_segment.Goals as goal
 

@@ -1,7 +1,7 @@
 use Rattle.std.proofs.Common.{◌≡◌, Result, Err, sym, ap, ◌∙◌}
 use Rattle.std.proofs.lemmas.Result.{err_from_is_err_and}
 use Rattle.rule_spec.specs.declared.rules.Rule.TheVariants.{L1}
-use Rattle.form_data.specs.Views.{module_of}
+use Rattle.form_reader.specs.Views.{module_of}
 use Rattle.form_rules.specs.declared.error.CheckError.{CheckError}
 use Rattle.form_rules.specs.declared.error.CheckError.TheVariants.{Invalid}
 use Rattle.form_rules.proofs.rules.check.Goals as goal

@@ -1,6 +1,6 @@
 use Rattle.std.proofs.Common.{arith, sym, ap, subst, ◌∙◌}
-use Rattle.form_lists.specs.Source.{source_module}
-use Rattle.form_lists.specs.Views.{lists_of}
+use Rattle.form_rules.specs.Source.{source_module}
+use Rattle.form_rules.specs.Views.{lists_of}
 use Rattle.std.specs.Prelude.{is_some}
 use Rattle.rule_spec.specs.declared.rules.Rule.TheVariants.{L1, L7}
 use Rattle.rule_spec.specs.Lists.{Lists}

@@ -3,8 +3,8 @@ use Rattle.std.specs.Prelude.{IfSome, is_some}
 use Rattle.rule_spec.specs.declared.rules.Rule.{Rule}
 use Rattle.rule_spec.specs.Lists.{lists_of_module}
 use Rattle.rule_spec.specs.Rules.{Satisfies, number_of}
-use Rattle.form_lists.specs.Source.{source_module}
-use Rattle.form_lists.specs.Views.{lists_of}
+use Rattle.form_rules.specs.Source.{source_module}
+use Rattle.form_rules.specs.Views.{lists_of}
 use Rattle.form_rules.specs.Names.{exported_names}
 use Rattle.form_rules.proofs.rules.checked_lists.Given as goal
 

@@ -3,7 +3,7 @@ use Rattle.std.specs.Result.{IfOk}
 use Rattle.rule_spec.specs.Lists.{Lists}
 use Rattle.rule_spec.specs.declared.rules.Rule.{Rule}
 use Rattle.rule_spec.specs.Rules.{Satisfies}
-use Rattle.form_lists.specs.Views.{lists_of}
+use Rattle.form_rules.specs.Views.{lists_of}
 use Rattle.form_rules.proofs.rules.keeps.Goals as goal
 
 -- a result for the rule of a match arm is one for the rule that was checked

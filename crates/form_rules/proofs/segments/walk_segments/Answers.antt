@@ -1,11 +1,11 @@
 use Rattle.std.proofs.Common.{length, ap, arith}
 use Rattle.wasm_spec.specs.Module.{Segment}
-use Rattle.form_data.specs.Views.{segment_of}
+use Rattle.form_reader.specs.Views.{segment_of}
 use Rattle.rule_spec.specs.Expressions.{HasMemoryOffset}
 use Rattle.rule_spec.specs.Indices.{NamesMemory}
 use Rattle.rule_spec.specs.References.{DataKindRefersIn}
-use Rattle.form_lists.specs.Views.{lists_of}
-use Rattle.form_lists.proofs.Taking.{taken}
+use Rattle.form_rules.specs.Views.{lists_of}
+use Rattle.form_rules.proofs.Taking.{taken}
 use Rattle.form_rules.proofs.Walking.{by_All, asked_more, asked_all, all_counted}
 use Rattle.form_rules.proofs.segments.walk_segments.Goals as goal
 

@@ -1,12 +1,12 @@
 use Rattle.std.proofs.Common.{◌≡◌, ◌↔◌, ◌+◌, length, All, IsTrue}
 use Rattle.wasm_spec.specs.Module.{segments_of_section, Segment}
-use Rattle.form_data.specs.Views.{segment_of}
+use Rattle.form_reader.specs.Views.{segment_of}
 use Rattle.rule_spec.specs.Expressions.{HasMemoryOffset}
 use Rattle.rule_spec.specs.Indices.{NamesMemory}
 use Rattle.rule_spec.specs.References.{DataKindRefersIn}
 use Rattle.form_reader.specs.SectionRows.{data_segment}
-use Rattle.form_lists.specs.Walk.{walk_left}
-use Rattle.form_lists.specs.Views.{lists_of}
+use Rattle.form_rules.specs.Walk.{walk_left}
+use Rattle.form_rules.specs.Views.{lists_of}
 use Rattle.form_rules.proofs.segments.walk_segments.Given as goal
 
 -- all hold exactly where those checked so far and the remaining ones do

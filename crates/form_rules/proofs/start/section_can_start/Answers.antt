@@ -1,8 +1,8 @@
 use Rattle.std.proofs.Common.{refl}
 use Rattle.wasm_spec.specs.Module.{starts_of_section}
 use Rattle.rule_spec.specs.Indices.{CanStart}
-use Rattle.form_lists.specs.Views.{lists_of}
-use Rattle.form_lists.proofs.AllSections.{customs_hold}
+use Rattle.form_rules.specs.Views.{lists_of}
+use Rattle.form_rules.proofs.AllSections.{customs_hold}
 use Rattle.form_rules.proofs.start.section_can_start.Goals as goal
 
 pub returns-in-Customs : goal.returns-in-Customs

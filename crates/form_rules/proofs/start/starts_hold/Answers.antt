@@ -1,9 +1,9 @@
 use Rattle.std.proofs.Common.{ap, ◌∙◌}
 use Rattle.wasm_spec.specs.Module.{starts_of_section}
 use Rattle.rule_spec.specs.Indices.{CanStart}
-use Rattle.form_lists.specs.Source.{sections_in, sections_left}
-use Rattle.form_lists.specs.Views.{lists_of}
-use Rattle.form_lists.proofs.AllSections.{left_parts, sections_more, sections_fail}
+use Rattle.form_rules.specs.Source.{sections_in, sections_left}
+use Rattle.form_rules.specs.Views.{lists_of}
+use Rattle.form_rules.proofs.AllSections.{left_parts, sections_more, sections_fail}
 use Rattle.form_rules.proofs.start.starts_hold.Goals as goal
 
 pub loop-section-init : goal.loop-section-init

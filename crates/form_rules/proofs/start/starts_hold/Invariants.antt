@@ -2,8 +2,8 @@ use Rattle.std.proofs.Common.{◌↔◌, All}
 use Rattle.std.specs.List.{flat_map}
 use Rattle.wasm_spec.specs.Module.{starts_of_section}
 use Rattle.rule_spec.specs.Indices.{CanStart}
-use Rattle.form_lists.specs.Source.{source_module, sections_left}
-use Rattle.form_lists.specs.Views.{lists_of}
+use Rattle.form_rules.specs.Source.{source_module, sections_left}
+use Rattle.form_rules.specs.Views.{lists_of}
 use Rattle.form_rules.proofs.start.starts_hold.Given as goal
 
 -- all hold exactly where the remaining ones do

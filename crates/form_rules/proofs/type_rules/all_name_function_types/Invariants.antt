@@ -1,7 +1,7 @@
 -- Those so far name function types.
 use Rattle.std.proofs.Common.{ℕ, ◌<◌, slice_index_or}
 use Rattle.rule_spec.specs.TypeRules.{NamesFunctionType}
-use Rattle.form_lists.specs.Views.{lists_of}
+use Rattle.form_rules.specs.Views.{lists_of}
 use Rattle.form_rules.specs.Known.{AreKnown}
 use Rattle.form_rules.proofs.type_rules.all_name_function_types.Given as goal
 

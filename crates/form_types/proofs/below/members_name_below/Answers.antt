@@ -1,7 +1,7 @@
 use Rattle.std.proofs.Common.{◌≡◌, ◌∙◌, ◌+◌, true, false, length, map, All, sym, arith}
 use Rattle.std.proofs.lemmas.List.{length-map}
 use Rattle.wasm_spec.specs.TypeData.{group_edges}
-use Rattle.form_data.specs.Views.{sub_type_of}
+use Rattle.form_reader.specs.Views.{sub_type_of}
 use Rattle.rule_spec.specs.TypeRules.{IsBelow}
 use Rattle.form_types.proofs.PartsBelow.{group_below}
 use Rattle.form_types.proofs.below.members_name_below.Goals as goal

@@ -1,5 +1,5 @@
 use Rattle.std.proofs.Common.{◌≡◌, ◌↔◌, ◌+◌, length, map, All}
-use Rattle.form_data.specs.Views.{sub_type_of}
+use Rattle.form_reader.specs.Views.{sub_type_of}
 use Rattle.rule_spec.specs.Lists.{declared_from}
 use Rattle.form_types.specs.Below.{HasSupertypeBelow}
 use Rattle.form_types.proofs.below.supertypes_are_below.Given as goal

@@ -1,5 +1,5 @@
 use Rattle.std.proofs.Common.{rules, ◌↔◌, map, All, IsTrue}
-use Rattle.form_data.specs.Views.{group_of}
+use Rattle.form_reader.specs.Views.{group_of}
 use Rattle.form_types.specs.Types.{NamedGroup, types_by_id, ContinuesFunction}
 use Rattle.form_types.proofs.AllOf.{tells_of_map, All-parts}
 use Rattle.form_types.proofs.continuations.continuations_hold.Goals as goal

@@ -1,5 +1,5 @@
 use Rattle.std.proofs.Common.{rules, map}
-use Rattle.form_data.specs.Views.{sub_type_of, group_of}
+use Rattle.form_reader.specs.Views.{sub_type_of, group_of}
 use Rattle.form_types.specs.Types.{types_by_id, ContinuesFunction}
 use Rattle.form_types.proofs.AllOf.{tells_of_map}
 use Rattle.form_types.proofs.continuations.members_continue.Goals as goal

@@ -4,7 +4,7 @@ use Rattle.wasm_spec.specs.declared.types.UnpackedIndex.{UnpackedIndex}
 use Rattle.wasm_spec.specs.declared.types.UnpackedIndex.TheVariants.{Id}
 use Rattle.wasm_spec.specs.declared.types.CoreTypeId.{CoreTypeId}
 use Rattle.wasm_spec.specs.TypeData.{SubType}
-use Rattle.form_data.specs.Views.{group_of}
+use Rattle.form_reader.specs.Views.{group_of}
 use Rattle.form_types.specs.Types.{types_by_id, NamesFunction}
 use Rattle.form_types.proofs.Looking.{length_numbers}
 use Rattle.form_types.proofs.continuations.names_function.Goals as goal

@@ -1,5 +1,5 @@
 use Rattle.std.proofs.Common.{◌≡◌, map, take}
-use Rattle.form_data.specs.Views.{sub_type_of}
+use Rattle.form_reader.specs.Views.{sub_type_of}
 use Rattle.form_types.proofs.copied.copied_group.Given as goal
 
 -- the members so far are copied

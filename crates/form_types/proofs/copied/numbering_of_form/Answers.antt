@@ -2,7 +2,7 @@ use Rattle.std.proofs.Common.{◌≡◌, ◌∙◌, ◌++◌, ◌∷◌, [], ◌
 use Rattle.std.proofs.lemmas.List.{append-nil, map_more}
 use Rattle.std.proofs.lemmas.List.Concat.{flat_map-append}
 use Rattle.wasm_spec.specs.Module.{groups, groups_of_section}
-use Rattle.form_data.specs.Views.{payload_of, group_of}
+use Rattle.form_reader.specs.Views.{payload_of, group_of}
 use Rattle.form_types.specs.Taken.{Took}
 use Rattle.form_types.proofs.copied.numbering_of_form.Goals as goal
 

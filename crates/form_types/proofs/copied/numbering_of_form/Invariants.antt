@@ -1,6 +1,6 @@
 use Rattle.std.proofs.Common.{map, take}
 use Rattle.wasm_spec.specs.Module.{groups}
-use Rattle.form_data.specs.Views.{payload_of}
+use Rattle.form_reader.specs.Views.{payload_of}
 use Rattle.form_types.specs.Taken.{Took}
 use Rattle.form_types.proofs.copied.numbering_of_form.Given as goal
 

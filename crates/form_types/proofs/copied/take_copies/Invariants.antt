@@ -1,5 +1,5 @@
 use Rattle.std.proofs.Common.{map, take}
-use Rattle.form_data.specs.Views.{group_of}
+use Rattle.form_reader.specs.Views.{group_of}
 use Rattle.form_reader.specs.Input.{TakesGroups}
 use Rattle.form_types.specs.Taken.{Took}
 use Rattle.form_types.proofs.copied.take_copies.Given as goal

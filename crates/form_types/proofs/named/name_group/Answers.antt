@@ -2,10 +2,10 @@ use Rattle.std.proofs.Common.{◌≡◌, ◌∙◌, [], map, sym, ap}
 use Rattle.std.proofs.lemmas.List.{nil_from_length}
 use Rattle.wasm_spec.specs.declared.types.UnpackedIndex.{UnpackedIndex}
 use Rattle.wasm_spec.specs.TypeData.{map_sub_type, map_group, group_edges}
-use Rattle.type_data.specs.Shapes.{erased}
-use Rattle.type_data.specs.TypeShapes.{group_shape}
-use Rattle.type_data.specs.Names.{plainly}
-use Rattle.form_data.specs.Views.{sub_type_of}
+use Rattle.type_spec.specs.Shapes.{erased}
+use Rattle.type_spec.specs.TypeShapes.{group_shape}
+use Rattle.type_spec.specs.Names.{plainly}
+use Rattle.form_reader.specs.Views.{sub_type_of}
 use Rattle.form_types.specs.Types.{NamedGroup}
 use Rattle.form_types.specs.EarlierTypes.{ids_of}
 use Rattle.form_types.specs.Placed.{named_index}

@@ -1,5 +1,5 @@
 use Rattle.wasm_spec.specs.TypeData.{map_sub_type}
-use Rattle.form_data.specs.Views.{sub_type_of}
+use Rattle.form_reader.specs.Views.{sub_type_of}
 use Rattle.form_types.specs.EarlierTypes.{ids_of}
 use Rattle.form_types.specs.Placed.{named_index}
 use Rattle.form_types.proofs.InPlace.{Changes}

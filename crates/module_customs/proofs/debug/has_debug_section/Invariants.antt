@@ -1,7 +1,7 @@
 use Rattle.std.proofs.Common.{◌≡◌}
 use Rattle.std.specs.List.{list_any}
-use Rattle.form_lists.specs.Source.{source_module}
-use Rattle.form_lists.specs.Singles.{singles_left}
+use Rattle.form_rules.specs.Source.{source_module}
+use Rattle.form_rules.specs.Singles.{singles_left}
 use Rattle.module_customs.specs.DebugSections.{is_debug_section}
 use Rattle.module_customs.proofs.debug.has_debug_section.Given as goal
 

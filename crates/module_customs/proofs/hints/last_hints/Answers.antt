@@ -4,7 +4,7 @@ use Rattle.std.specs.List.{filter_map, cons_option}
 use Rattle.wasm_spec.specs.Module.{Payload}
 use Rattle.custom_sections.specs.declared.hints.Hint.{Hint}
 use Rattle.custom_sections.specs.Views.{hint_entry_of}
-use Rattle.form_lists.specs.Singles.{singles_left}
+use Rattle.form_rules.specs.Singles.{singles_left}
 use Rattle.module_customs.specs.Hints.{HintLists, hint_lists, last_or}
 use Rattle.module_customs.proofs.HintsInTurn.{hints-after}
 use Rattle.module_customs.proofs.hints.last_hints.Goals as goal

@@ -1,8 +1,8 @@
 use Rattle.std.proofs.Common.{◌≡◌, map}
 use Rattle.std.specs.List.{filter_map}
 use Rattle.custom_sections.specs.Views.{hint_entry_of}
-use Rattle.form_lists.specs.Source.{source_module}
-use Rattle.form_lists.specs.Singles.{singles_left}
+use Rattle.form_rules.specs.Source.{source_module}
+use Rattle.form_rules.specs.Singles.{singles_left}
 use Rattle.module_customs.specs.Hints.{hint_lists, last_or, module_hints}
 use Rattle.module_customs.proofs.hints.last_hints.Given as goal
 

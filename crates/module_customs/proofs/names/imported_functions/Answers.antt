@@ -1,6 +1,6 @@
 use Rattle.std.proofs.Common.{◌+◌, ◌≤◌, map, take, sym, ap, ◌∙◌, subst, arith}
 use Rattle.std.proofs.lemmas.List.{length-map, length-take-le, map_more}
-use Rattle.form_data.specs.Views.{import_of}
+use Rattle.form_reader.specs.Views.{import_of}
 use Rattle.module_customs.specs.Names.{functions_among}
 use Rattle.module_customs.proofs.Functions.{functions-push, functions-le}
 use Rattle.module_customs.proofs.NamesInTurn.{one_if-le}

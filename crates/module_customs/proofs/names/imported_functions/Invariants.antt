@@ -1,5 +1,5 @@
 use Rattle.std.proofs.Common.{◌≡◌, map, take}
-use Rattle.form_data.specs.Views.{import_of}
+use Rattle.form_reader.specs.Views.{import_of}
 use Rattle.module_customs.specs.Names.{functions_among}
 use Rattle.module_customs.proofs.names.imported_functions.Given as goal
 

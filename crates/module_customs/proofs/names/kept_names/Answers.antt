@@ -1,8 +1,8 @@
 use Rattle.std.proofs.Common.{[], ◌∷◌, ◌++◌, ◌∙◌, ◌^◌, List, subst, sym, ap, append_assoc, arith}
 use Rattle.std.proofs.lemmas.List.{append-nil}
 use Rattle.wasm_spec.specs.Module as plain
-use Rattle.form_lists.specs.Source.{source_module}
-use Rattle.form_lists.specs.Singles.{single_of, singles_left}
+use Rattle.form_rules.specs.Source.{source_module}
+use Rattle.form_rules.specs.Singles.{single_of, singles_left}
 use Rattle.module_customs.specs.Names.{names_after, KeepsNames}
 use Rattle.module_customs.proofs.NamesInTurn.{next-names, declared-more, declared-few}
 use Rattle.module_customs.proofs.names.kept_names.Goals as goal

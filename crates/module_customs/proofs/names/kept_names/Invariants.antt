@@ -1,7 +1,7 @@
 use Rattle.std.proofs.Common.{◌≡◌, List, [], ◌++◌, length}
 use Rattle.wasm_spec.specs.Module as plain
-use Rattle.form_lists.specs.Source.{source_module}
-use Rattle.form_lists.specs.Singles.{singles_left}
+use Rattle.form_rules.specs.Source.{source_module}
+use Rattle.form_rules.specs.Singles.{singles_left}
 use Rattle.module_customs.specs.Names.{names_after, KeepsNames}
 use Rattle.module_customs.proofs.names.kept_names.Given as goal
 

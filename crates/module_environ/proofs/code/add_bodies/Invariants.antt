@@ -1,5 +1,5 @@
 use Rattle.std.proofs.Common.{◌≡◌, ◌++◌, map}
-use Rattle.form_data.specs.Views.{body_of}
+use Rattle.form_reader.specs.Views.{body_of}
 use Rattle.module_environ.proofs.code.add_bodies.Given as goal
 
 -- the bodies so far are added

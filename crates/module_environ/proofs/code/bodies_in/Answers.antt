@@ -1,6 +1,6 @@
 use Rattle.std.proofs.Common.{◌∙◌, map, refl, sym, ap}
 use Rattle.wasm_spec.specs.Module.{bodies_of_section}
-use Rattle.form_data.specs.Views.{body_of}
+use Rattle.form_reader.specs.Views.{body_of}
 use Rattle.form_reader.proofs.CustomRuns.{none_listed}
 use Rattle.module_environ.proofs.code.bodies_in.Goals as goal
 

@@ -6,7 +6,7 @@ use Rattle.std.specs.Vec.Iter.{into_iter_items}
 use Rattle.std.proofs.lemmas.List.{length-map, length-append}
 use Rattle.std.proofs.lemmas.List.Concat.{flat_map-append}
 use Rattle.wasm_spec.specs.Module.{Body, bodies_of_section, Payload}
-use Rattle.form_data.specs.Views.{body_of}
+use Rattle.form_reader.specs.Views.{body_of}
 use Rattle.form_reader.specs.Input.{sections_of_part}
 use Rattle.form_reader.specs.declared.input.InputPart.{InputPart}
 use Rattle.module_environ.specs.Translation.{code_places}

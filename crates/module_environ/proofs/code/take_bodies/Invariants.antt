@@ -4,7 +4,7 @@ use Rattle.std.specs.Option.{option_to_list}
 use Rattle.std.specs.Vec.Iter.{into_iter_items}
 use Rattle.std.specs.Prelude.{slice_get}
 use Rattle.wasm_spec.specs.Module.{bodies_of_section}
-use Rattle.form_data.specs.Views.{body_of}
+use Rattle.form_reader.specs.Views.{body_of}
 use Rattle.form_reader.specs.Input.{sections_of_part, input_module_of}
 use Rattle.module_environ.specs.Translation.{code_places}
 use Rattle.module_environ.proofs.code.take_bodies.Given as goal

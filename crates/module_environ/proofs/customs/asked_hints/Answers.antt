@@ -1,4 +1,4 @@
-use Rattle.form_lists.specs.Source.{source_module}
+use Rattle.form_rules.specs.Source.{source_module}
 use Rattle.module_environ.proofs.AskedHints.{no-hints}
 use Rattle.module_environ.proofs.customs.asked_hints.Goals as goal
 

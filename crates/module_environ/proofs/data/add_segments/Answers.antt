@@ -3,10 +3,10 @@ use Rattle.std.specs.List.{filter_map}
 use Rattle.std.proofs.lemmas.List.{map-append}
 use Rattle.std.proofs.lemmas.List.Elements.{All-rest, filter_map-append}
 use Rattle.wasm_spec.specs.Module.{Segment, segments_of_section}
-use Rattle.form_data.specs.Views.{segment_of}
+use Rattle.form_reader.specs.Views.{segment_of}
 use Rattle.form_reader.specs.SectionRows.{data_segment}
-use Rattle.form_lists.specs.Walk.{walk_left}
-use Rattle.form_lists.proofs.Taking.{taken}
+use Rattle.form_rules.specs.Walk.{walk_left}
+use Rattle.form_rules.proofs.Taking.{taken}
 use Rattle.replay_spec.specs.Data.{ActiveSegment, active_of_kind}
 use Rattle.replay_spec.specs.Held.{held_segment}
 use Rattle.memory_images.specs.Views.{active_segment_of}

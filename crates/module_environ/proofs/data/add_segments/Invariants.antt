@@ -1,10 +1,10 @@
 use Rattle.std.proofs.Common.{◌≡◌, ◌+◌, ◌<◌, ◌++◌, length, map}
 use Rattle.std.specs.List.{filter_map}
 use Rattle.wasm_spec.specs.Module.{segments, segments_of_section}
-use Rattle.form_data.specs.Views.{segment_of}
+use Rattle.form_reader.specs.Views.{segment_of}
 use Rattle.form_reader.specs.SectionRows.{data_segment}
-use Rattle.form_lists.specs.Source.{source_module}
-use Rattle.form_lists.specs.Walk.{walk_left}
+use Rattle.form_rules.specs.Source.{source_module}
+use Rattle.form_rules.specs.Walk.{walk_left}
 use Rattle.replay_spec.specs.Data.{active_of_kind}
 use Rattle.replay_spec.specs.Held.{held_segment, held_segments}
 use Rattle.memory_images.specs.Views.{active_segment_of}

@@ -1,6 +1,6 @@
 use Rattle.std.proofs.Common.{◌≡◌, map, take}
 use Rattle.std.specs.List.{flat_map}
-use Rattle.form_data.specs.Views.{expression_of}
+use Rattle.form_reader.specs.Views.{expression_of}
 use Rattle.wasm_convert.specs.Constants.{const_ops_of}
 use Rattle.module_environ.specs.Escapes.{referred}
 use Rattle.module_environ.specs.EscapeLog.{after_escapes}

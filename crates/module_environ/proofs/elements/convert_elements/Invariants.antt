@@ -1,10 +1,10 @@
 use Rattle.std.proofs.Common.{◌≡◌, ◌++◌, List, length}
 use Rattle.std.specs.List.{flat_map}
 use Rattle.wasm_spec.specs.Module.{Element, elements_of_section}
-use Rattle.form_data.specs.Views.{element_of}
+use Rattle.form_reader.specs.Views.{element_of}
 use Rattle.form_reader.specs.SectionRows.{element_segment}
-use Rattle.form_lists.specs.Source.{source_module}
-use Rattle.form_lists.specs.Walk.{walk_left}
+use Rattle.form_rules.specs.Source.{source_module}
+use Rattle.form_rules.specs.Walk.{walk_left}
 use Rattle.module_environ.specs.Escapes.{item_functions}
 use Rattle.module_environ.specs.EscapeLog.{after_escapes}
 use Rattle.module_environ.specs.Segments.{AreElementsConvertible, HoldsElements}

@@ -1,8 +1,8 @@
 use Rattle.std.proofs.Common.{◌∙◌, ◌++◌, ◌∷◌, [], length, ap, arith, length-append}
 use Rattle.std.proofs.lemmas.List.Elements.{All-rest, filter_map-append}
 use Rattle.wasm_spec.specs.Module.{Export, exports_of_section}
-use Rattle.form_data.specs.Views.{export_of}
-use Rattle.form_lists.specs.Sections.{entries_left}
+use Rattle.form_reader.specs.Views.{export_of}
+use Rattle.form_rules.specs.Sections.{entries_left}
 use Rattle.module_environ.specs.Escapes.{exported_function}
 use Rattle.module_environ.specs.Exported.{CanExport, entered, exported_functions}
 use Rattle.module_environ.specs.EscapeLog.{EscapeLog}

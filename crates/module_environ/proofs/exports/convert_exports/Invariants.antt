@@ -1,9 +1,9 @@
 use Rattle.std.proofs.Common.{◌≡◌, ◌++◌, List, All}
 use Rattle.std.specs.List.{flat_map}
 use Rattle.wasm_spec.specs.Module.{Export, exports_of_section}
-use Rattle.form_data.specs.Views.{export_of}
-use Rattle.form_lists.specs.Source.{source_module}
-use Rattle.form_lists.specs.Sections.{entries_left}
+use Rattle.form_reader.specs.Views.{export_of}
+use Rattle.form_rules.specs.Source.{source_module}
+use Rattle.form_rules.specs.Sections.{entries_left}
 use Rattle.module_environ.specs.Exported.{CanExport, exported_functions, entered}
 use Rattle.module_environ.specs.EscapeLog.{after_escapes}
 use Rattle.module_environ.proofs.exports.convert_exports.Given as goal

@@ -5,7 +5,7 @@ use Rattle.std.specs.Option.{option_map}
 use Rattle.std.proofs.lemmas.List.{length_push}
 use Rattle.std.proofs.lemmas.List.Elements.{All-rest}
 use Rattle.wasm_spec.specs.Module.{TableDef}
-use Rattle.form_data.specs.Views.{table_of}
+use Rattle.form_reader.specs.Views.{table_of}
 use Rattle.wasm_convert.specs.Constants.{const_ops_of}
 use Rattle.module_environ.specs.Convertible.{IsConvertible}
 use Rattle.module_environ.specs.Escapes.{referred_if_any}

@@ -2,8 +2,8 @@ use Rattle.std.proofs.Common.{ℕ, length, ap, arith}
 use Rattle.std.specs.List.{flat_map}
 use Rattle.std.proofs.lemmas.List.Elements.{All-rest}
 use Rattle.wasm_spec.specs.Module.{GlobalDef}
-use Rattle.form_data.specs.Views.{global_of}
-use Rattle.form_lists.proofs.Taking.{taken}
+use Rattle.form_reader.specs.Views.{global_of}
+use Rattle.form_rules.proofs.Taking.{taken}
 use Rattle.module_environ.specs.Convertible.{IsConvertible}
 use Rattle.module_environ.specs.Escapes.{referred}
 use Rattle.module_environ.specs.EscapeLog.{EscapeLog}

@@ -1,10 +1,10 @@
 use Rattle.std.proofs.Common.{◌≡◌, ◌+◌, ◌<◌, ◌++◌, length, map, All}
 use Rattle.std.specs.List.{flat_map, filter_map}
 use Rattle.wasm_spec.specs.Module.{globals_of_section}
-use Rattle.form_data.specs.Views.{global_of}
+use Rattle.form_reader.specs.Views.{global_of}
 use Rattle.form_reader.specs.SectionRows.{global_entry}
-use Rattle.form_lists.specs.Source.{source_module}
-use Rattle.form_lists.specs.Walk.{walk_left}
+use Rattle.form_rules.specs.Source.{source_module}
+use Rattle.form_rules.specs.Walk.{walk_left}
 use Rattle.replay_spec.specs.Globals.{simple_of, kept_of}
 use Rattle.module_environ.specs.Convertible.{IsConvertible}
 use Rattle.module_environ.specs.Escapes.{referred}

@@ -1,7 +1,7 @@
 use Rattle.std.proofs.Common.{◌++◌, ◌∷◌, [], List, length, ap, subst, arith, length-append}
 use Rattle.wasm_spec.specs.Module.{Import, imports_of_section}
-use Rattle.form_data.specs.Views.{import_of}
-use Rattle.form_lists.specs.Sections.{entries_left}
+use Rattle.form_reader.specs.Views.{import_of}
+use Rattle.form_rules.specs.Sections.{entries_left}
 use Rattle.module_environ.specs.Imported.{AreImported}
 use Rattle.module_environ.proofs.Filling.{came_more, came_all}
 use Rattle.module_environ.proofs.ImportsInTurn.{counted-few, room-for-imports, imported-step}

@@ -1,8 +1,8 @@
 use Rattle.std.proofs.Common.{◌≡◌, ◌++◌, List}
 use Rattle.wasm_spec.specs.Module as plain
-use Rattle.form_data.specs.Views.{import_of}
-use Rattle.form_lists.specs.Source.{source_module}
-use Rattle.form_lists.specs.Sections.{entries_left}
+use Rattle.form_reader.specs.Views.{import_of}
+use Rattle.form_rules.specs.Source.{source_module}
+use Rattle.form_rules.specs.Sections.{entries_left}
 use Rattle.module_environ.specs.Imported.{AreImported}
 use Rattle.module_environ.proofs.imports.convert_imports.Given as goal
 

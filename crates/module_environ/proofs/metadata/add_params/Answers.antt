@@ -2,8 +2,8 @@ use Rattle.std.proofs.Common.{◌∙◌, List, All, map, sym, ap, subst}
 use Rattle.std.specs.Global.{Vec}
 use Rattle.wasm_spec.specs.declared.types.UnpackedIndex.{UnpackedIndex}
 use Rattle.wasm_spec.specs.TypeData.{Value, value_edges, value_of, map_value}
-use Rattle.form_data.specs.declared.types.SubType.{SubType}
-use Rattle.form_data.specs.Views.{sub_type_of}
+use Rattle.form_reader.specs.declared.types.SubType.{SubType}
+use Rattle.form_reader.specs.Views.{sub_type_of}
 use Rattle.form_types.proofs.AllOf.{All-from_map}
 use Rattle.wasm_types.specs.declared.value.WasmValType.{WasmValType}
 use Rattle.wasm_types.specs.ValueViews.{value_of as view_value}

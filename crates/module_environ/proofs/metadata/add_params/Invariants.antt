@@ -1,5 +1,5 @@
 use Rattle.std.proofs.Common.{◌≡◌, ◌++◌, map, take}
-use Rattle.form_data.specs.Views.{sub_type_of}
+use Rattle.form_reader.specs.Views.{sub_type_of}
 use Rattle.wasm_types.specs.ValueViews.{value_of as view_value}
 use Rattle.module_environ.specs.Metadata.{params_to}
 use Rattle.module_environ.proofs.metadata.add_params.Given as goal

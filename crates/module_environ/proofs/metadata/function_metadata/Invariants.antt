@@ -3,8 +3,8 @@ use Rattle.std.specs.List.{flat_map, enumerate_from}
 use Rattle.wasm_spec.specs.Module.{bodies_of_section}
 use Rattle.rule_spec.specs.Lists.{lists_of_module}
 use Rattle.rule_spec.specs.References.{BodyRefersIn}
-use Rattle.form_data.specs.Views.{body_of}
-use Rattle.form_lists.specs.Sections.{entries_left}
+use Rattle.form_reader.specs.Views.{body_of}
+use Rattle.form_rules.specs.Sections.{entries_left}
 use Rattle.module_environ.specs.Filling.{module_in}
 use Rattle.module_environ.specs.Metadata.{function_data, view_function}
 use Rattle.module_environ.specs.Types.{look_up_in}

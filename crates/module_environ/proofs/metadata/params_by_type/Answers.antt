@@ -1,9 +1,9 @@
 use Rattle.std.proofs.Common.{◌≡◌, ◌∙◌, Bool, false, List, [], ◌++◌, All, map, sym, ap, subst}
 use Rattle.std.proofs.lemmas.List.{append-nil, map-append}
-use Rattle.form_data.specs.Views.{group_of}
+use Rattle.form_reader.specs.Views.{group_of}
 use Rattle.form_types.proofs.AllOf.{All-joined}
 use Rattle.form_reader.specs.Input.{Takes}
-use Rattle.form_lists.proofs.Taking.{taken}
+use Rattle.form_rules.proofs.Taking.{taken}
 use Rattle.form_types.specs.Types.{NamedGroup, types_by_id}
 use Rattle.wasm_types.specs.ValueViews.{value_of as view_value}
 use Rattle.module_environ.specs.Metadata.{KnowsParams, params_to}

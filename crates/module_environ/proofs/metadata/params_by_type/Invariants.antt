@@ -1,8 +1,8 @@
 use Rattle.std.proofs.Common.{◌≡◌, ◌++◌, length, map, All}
 use Rattle.wasm_spec.specs.Module.{types, groups_of_section}
-use Rattle.form_data.specs.Views.{group_of}
+use Rattle.form_reader.specs.Views.{group_of}
 use Rattle.form_reader.specs.TypeRows.{group}
-use Rattle.form_lists.specs.Walk.{walk_left}
+use Rattle.form_rules.specs.Walk.{walk_left}
 use Rattle.form_types.specs.Types.{types_by_id}
 use Rattle.wasm_types.specs.ValueViews.{value_of as view_value}
 use Rattle.module_environ.specs.Filling.{module_in}

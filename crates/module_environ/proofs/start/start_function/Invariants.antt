@@ -1,7 +1,7 @@
 use Rattle.std.proofs.Common.{◌≡◌}
 use Rattle.std.specs.List.{flat_map}
 use Rattle.wasm_spec.specs.Module.{starts_of_section}
-use Rattle.form_lists.specs.Source.{source_module, sections_left}
+use Rattle.form_rules.specs.Source.{source_module, sections_left}
 use Rattle.module_environ.proofs.start.start_function.Given as goal
 
 -- the sections so far have no start function

@@ -6,7 +6,7 @@ use Rattle.rule_spec.specs.declared.rules.Rule.TheVariants.{L1}
 use Rattle.rule_spec.specs.Lists as rule
 use Rattle.rule_spec.specs.Lists.{lists_of_module}
 use Rattle.rule_spec.specs.Rules.{Keeps}
-use Rattle.form_lists.specs.Source.{source_module}
+use Rattle.form_rules.specs.Source.{source_module}
 use Rattle.form_rules.specs.Names.{exported_names}
 use Rattle.module_types.specs.Builder.{builder_view}
 use Rattle.module_environ.specs.Errors.{error_of_check}

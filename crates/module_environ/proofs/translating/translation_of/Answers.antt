@@ -1,6 +1,6 @@
 use Rattle.std.proofs.Common.{[], refl, ap, ◌∙◌, map}
 use Rattle.std.proofs.lemmas.Result.{err_from_is_err_and}
-use Rattle.form_data.specs.Views.{body_of}
+use Rattle.form_reader.specs.Views.{body_of}
 use Rattle.form_reader.specs.Input.{input_module_of}
 use Rattle.init_plan.specs.declared.translation.ModuleTranslation.{ModuleTranslation}
 use Rattle.module_environ.proofs.Answering.{read_cause, read_complete, was_readable, form_cause, is_translated}

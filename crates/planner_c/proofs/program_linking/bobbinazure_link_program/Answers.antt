@@ -4,7 +4,7 @@ use Rattle.std.proofs.lemmas.Slice.Zip.{AllZip-long}
 use Rattle.translate.specs.Options.{options_of}
 use Rattle.translate.specs.Valid.{IsValid}
 use Rattle.command_words.specs.declared.command.Command.{Command}
-use Rattle.plan.specs.declared.plan.Plan.{Plan}
+use Rattle.plan_text.specs.declared.plan.Plan.{Plan}
 use Rattle.plan_link.specs.declared.program.ProgramModule.{ProgramModule}
 use Rattle.import_match.proofs.Listing.{All-slice_get}
 use Rattle.planner_c.specs.Members.{HasThisPlan, IsNamedAs}

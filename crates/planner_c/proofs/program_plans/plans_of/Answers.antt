@@ -1,7 +1,7 @@
 use Rattle.std.proofs.Common.{◌+◌, get_or, take, sym, subst}
 use Rattle.std.specs.List.{AllZip}
 use Rattle.std.proofs.lemmas.Option.{slice_get-get_or}
-use Rattle.plan.specs.declared.plan.Plan.{Plan}
+use Rattle.plan_text.specs.declared.plan.Plan.{Plan}
 use Rattle.translate.specs.Options.{options_of}
 use Rattle.planner_c.specs.Members.{HasThisPlan}
 use Rattle.planner_c.proofs.Nothing.{nothing}

@@ -1,4 +1,4 @@
-use Rattle.form_lists.specs.Views.{lists_of}
+use Rattle.form_rules.specs.Views.{lists_of}
 use Rattle.rule_breaks.proofs.Located.{none_where_kept, first_where_broken}
 use Rattle.rule_breaks.proofs.breaks.first_break.Goals as goal
 

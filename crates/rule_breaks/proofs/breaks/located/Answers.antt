@@ -2,7 +2,7 @@ use Rattle.std.proofs.Common.{◌≡◌, Option, Result, sym, subst}
 use Rattle.std.specs.Prelude.{IfOk}
 use Rattle.rule_spec.specs.declared.rules.Rule.{Rule}
 use Rattle.rule_spec.specs.Lists.{Lists}
-use Rattle.form_lists.specs.Views.{lists_of}
+use Rattle.form_rules.specs.Views.{lists_of}
 use Rattle.rule_breaks.specs.declared.lists.Break.{Break}
 use Rattle.rule_breaks.specs.Breaks.{Locates}
 use Rattle.rule_breaks.proofs.breaks.located.Goals as goal

@@ -1,6 +1,6 @@
 use Rattle.std.proofs.Common.{◌≡◌, ℕ, Some}
 use Rattle.wasm_spec.specs.Module.{data_counts_of_section}
-use Rattle.form_lists.specs.Source.{sections_in}
+use Rattle.form_rules.specs.Source.{sections_in}
 use Rattle.rule_breaks.proofs.Searching.{passes_more, passes_lack, parts_step}
 use Rattle.rule_breaks.proofs.counts.first_other_count.Goals as goal
 

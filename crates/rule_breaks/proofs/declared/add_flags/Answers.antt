@@ -1,7 +1,7 @@
 use Rattle.std.proofs.Common.{◌++◌, ◌∙◌, Bool, List, map, ap, sym}
 use Rattle.std.proofs.lemmas.List.{take_all}
-use Rattle.form_data.specs.declared.types.SubType.{SubType}
-use Rattle.form_data.specs.Views.{composite_of}
+use Rattle.form_reader.specs.declared.types.SubType.{SubType}
+use Rattle.form_reader.specs.Views.{composite_of}
 use Rattle.rule_breaks.specs.TypeFlags.{is_function}
 use Rattle.rule_breaks.proofs.DeclaredWell.{flags_of_types}
 use Rattle.rule_breaks.proofs.declared.add_flags.Goals as goal

@@ -1,5 +1,5 @@
 use Rattle.std.proofs.Common.{◌≡◌, ◌++◌, map, take}
-use Rattle.form_data.specs.Views.{composite_of}
+use Rattle.form_reader.specs.Views.{composite_of}
 use Rattle.rule_breaks.specs.TypeFlags.{is_function}
 use Rattle.rule_breaks.proofs.declared.add_flags.Given as goal
 

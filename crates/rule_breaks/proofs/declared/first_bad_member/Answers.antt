@@ -1,5 +1,5 @@
 use Rattle.std.proofs.Common.{◌≡◌, ◌+◌, ℕ, length, map, ap, subst, arith}
-use Rattle.form_data.specs.Views.{sub_type_of}
+use Rattle.form_reader.specs.Views.{sub_type_of}
 use Rattle.rule_spec.specs.Lists.{declared_from}
 use Rattle.rule_breaks.specs.TypeFlags.{IsWell}
 use Rattle.rule_breaks.proofs.Searching.{Passes, empty, passes_none, passes_all, passes_more, passes_fails}

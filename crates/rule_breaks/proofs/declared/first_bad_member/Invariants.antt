@@ -1,5 +1,5 @@
 use Rattle.std.proofs.Common.{◌≡◌, ◌+◌, length, map}
-use Rattle.form_data.specs.Views.{sub_type_of}
+use Rattle.form_reader.specs.Views.{sub_type_of}
 use Rattle.rule_spec.specs.Lists.{declared_from}
 use Rattle.rule_breaks.specs.TypeFlags.{IsWell}
 use Rattle.rule_breaks.proofs.Searching.{Passes}

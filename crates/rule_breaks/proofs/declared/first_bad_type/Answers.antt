@@ -1,7 +1,7 @@
 use Rattle.std.proofs.Common.{None, Some, ap, rules, ◌∙◌}
 use Rattle.rule_spec.specs.Lists.{declared_groups}
-use Rattle.form_lists.specs.Source.{source_module}
-use Rattle.form_lists.proofs.Taking.{taken}
+use Rattle.form_rules.specs.Source.{source_module}
+use Rattle.form_rules.proofs.Taking.{taken}
 use Rattle.rule_breaks.specs.TypeFlags.{IsWell}
 use Rattle.rule_breaks.proofs.Searching.{passes_none}
 use Rattle.rule_breaks.proofs.DeclaredWell.{group_passes, group_fails, groups_end, found_well}

@@ -1,10 +1,10 @@
 use Rattle.std.proofs.Common.{length}
 use Rattle.wasm_spec.specs.Module.{groups, groups_of_section}
 use Rattle.rule_spec.specs.Lists.{declared_groups}
-use Rattle.form_data.specs.Views.{group_of}
+use Rattle.form_reader.specs.Views.{group_of}
 use Rattle.form_reader.specs.TypeRows.{group}
-use Rattle.form_lists.specs.Source.{source_module}
-use Rattle.form_lists.specs.Walk.{walk_left}
+use Rattle.form_rules.specs.Source.{source_module}
+use Rattle.form_rules.specs.Walk.{walk_left}
 use Rattle.rule_breaks.specs.TypeFlags.{IsWell}
 use Rattle.rule_breaks.proofs.Searching.{Passes}
 use Rattle.rule_breaks.proofs.declared.first_bad_type.Given as goal

@@ -1,4 +1,4 @@
-use Rattle.form_lists.proofs.Taking.{taken}
+use Rattle.form_rules.proofs.Taking.{taken}
 use Rattle.rule_breaks.proofs.DeclaredWell.{flags-more, flags-ended}
 use Rattle.rule_breaks.proofs.declared.functions_in.Goals as goal
 

@@ -1,9 +1,9 @@
 use Rattle.std.proofs.Common.{◌≡◌, ◌++◌, length}
 use Rattle.wasm_spec.specs.Module.{groups, groups_of_section}
-use Rattle.form_data.specs.Views.{group_of}
+use Rattle.form_reader.specs.Views.{group_of}
 use Rattle.form_reader.specs.TypeRows.{group}
-use Rattle.form_lists.specs.Source.{source_module}
-use Rattle.form_lists.specs.Walk.{walk_left}
+use Rattle.form_rules.specs.Source.{source_module}
+use Rattle.form_rules.specs.Walk.{walk_left}
 use Rattle.rule_breaks.specs.TypeFlags.{function_flags}
 use Rattle.rule_breaks.proofs.declared.functions_in.Given as goal
 

@@ -1,9 +1,9 @@
 use Rattle.std.proofs.Common.{length}
 use Rattle.wasm_spec.specs.Module.{elements_of_section}
-use Rattle.form_data.specs.Views.{element_of}
+use Rattle.form_reader.specs.Views.{element_of}
 use Rattle.form_reader.specs.SectionRows.{element_segment}
-use Rattle.form_lists.specs.Walk.{walk_left}
-use Rattle.form_lists.specs.Views.{lists_of}
+use Rattle.form_rules.specs.Walk.{walk_left}
+use Rattle.form_rules.specs.Views.{lists_of}
 use Rattle.rule_breaks.specs.Kept.{ElementKeeps}
 use Rattle.rule_breaks.proofs.Searching.{Passes}
 use Rattle.rule_breaks.proofs.elements.first_element.Given as goal

@@ -1,7 +1,7 @@
 use Rattle.std.proofs.Common.{rules}
-use Rattle.form_data.specs.Views.{body_of}
+use Rattle.form_reader.specs.Views.{body_of}
 use Rattle.rule_breaks.specs.Kept.{BodyKeeps}
-use Rattle.form_lists.specs.Views.{lists_of}
+use Rattle.form_rules.specs.Views.{lists_of}
 use Rattle.rule_breaks.proofs.Searching.{passes_none, passes_all, passes_more, passes_fails}
 use Rattle.rule_breaks.proofs.entries.first_body.Goals as goal
 

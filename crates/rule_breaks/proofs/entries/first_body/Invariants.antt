@@ -1,8 +1,8 @@
 use Rattle.wasm_spec.specs.Module.{bodies_of_section}
-use Rattle.form_data.specs.Views.{body_of}
+use Rattle.form_reader.specs.Views.{body_of}
 use Rattle.rule_breaks.specs.Kept.{BodyKeeps}
-use Rattle.form_lists.specs.Sections.{entries_left}
-use Rattle.form_lists.specs.Views.{lists_of}
+use Rattle.form_rules.specs.Sections.{entries_left}
+use Rattle.form_rules.specs.Views.{lists_of}
 use Rattle.rule_breaks.proofs.Searching.{Passes}
 use Rattle.rule_breaks.proofs.entries.first_body.Given as goal
 

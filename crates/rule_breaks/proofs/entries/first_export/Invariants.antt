@@ -1,8 +1,8 @@
 use Rattle.wasm_spec.specs.Module.{exports_of_section}
-use Rattle.form_data.specs.Views.{export_of}
+use Rattle.form_reader.specs.Views.{export_of}
 use Rattle.rule_spec.specs.Indices.{IsInSpace}
-use Rattle.form_lists.specs.Sections.{entries_left}
-use Rattle.form_lists.specs.Views.{lists_of}
+use Rattle.form_rules.specs.Sections.{entries_left}
+use Rattle.form_rules.specs.Views.{lists_of}
 use Rattle.rule_breaks.proofs.Searching.{Passes}
 use Rattle.rule_breaks.proofs.entries.first_export.Given as goal
 

@@ -1,8 +1,8 @@
 use Rattle.std.proofs.Common.{◌↔◌, IsTrue, length, subst, rules}
 use Rattle.wasm_spec.specs.Module.{Import}
-use Rattle.form_data.specs.Views.{import_of}
+use Rattle.form_reader.specs.Views.{import_of}
 use Rattle.rule_spec.specs.References.{ImportRefersIn}
-use Rattle.form_lists.specs.Views.{lists_of}
+use Rattle.form_rules.specs.Views.{lists_of}
 use Rattle.rule_breaks.proofs.Searching.{passes_none, passes_all, passes_more, passes_fails}
 use Rattle.rule_breaks.proofs.entries.first_import.Goals as goal
 

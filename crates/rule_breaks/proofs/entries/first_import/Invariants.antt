@@ -1,9 +1,9 @@
 use Rattle.std.proofs.Common.{length}
 use Rattle.wasm_spec.specs.Module.{Import, imports_of_section}
-use Rattle.form_data.specs.Views.{import_of}
+use Rattle.form_reader.specs.Views.{import_of}
 use Rattle.rule_spec.specs.References.{ImportRefersIn}
-use Rattle.form_lists.specs.Sections.{entries_left}
-use Rattle.form_lists.specs.Views.{lists_of}
+use Rattle.form_rules.specs.Sections.{entries_left}
+use Rattle.form_rules.specs.Views.{lists_of}
 use Rattle.rule_breaks.proofs.Searching.{Passes}
 use Rattle.rule_breaks.proofs.entries.first_import.Given as goal
 

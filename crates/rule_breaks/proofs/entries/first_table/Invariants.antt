@@ -1,8 +1,8 @@
 use Rattle.wasm_spec.specs.Module.{tables_of_section}
-use Rattle.form_data.specs.Views.{table_of}
+use Rattle.form_reader.specs.Views.{table_of}
 use Rattle.rule_breaks.specs.Kept.{TableKeeps}
-use Rattle.form_lists.specs.Sections.{entries_left}
-use Rattle.form_lists.specs.Views.{lists_of}
+use Rattle.form_rules.specs.Sections.{entries_left}
+use Rattle.form_rules.specs.Views.{lists_of}
 use Rattle.rule_breaks.proofs.Searching.{Passes}
 use Rattle.rule_breaks.proofs.entries.first_table.Given as goal
 

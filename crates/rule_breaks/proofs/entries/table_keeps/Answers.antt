@@ -1,8 +1,8 @@
 use Rattle.std.proofs.Common.{◌↔◌, Bool, IsTrue, sym, subst}
 use Rattle.std.specs.Prelude.{IfOk}
 use Rattle.rule_spec.specs.declared.rules.Rule.{Rule}
-use Rattle.form_data.specs.Views.{table_of}
-use Rattle.form_lists.specs.Views.{lists_of}
+use Rattle.form_reader.specs.Views.{table_of}
+use Rattle.form_rules.specs.Views.{lists_of}
 use Rattle.rule_breaks.specs.Kept.{TableKeeps}
 use Rattle.rule_breaks.proofs.entries.table_keeps.Goals as goal
 

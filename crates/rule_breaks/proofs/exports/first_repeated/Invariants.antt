@@ -1,9 +1,9 @@
 use Rattle.std.proofs.Common.{◌≡◌, length}
 use Rattle.std.specs.List.{flat_map}
 use Rattle.wasm_spec.specs.Module.{exports_of_section}
-use Rattle.form_data.specs.Views.{export_of}
-use Rattle.form_lists.specs.Source.{source_module}
-use Rattle.form_lists.specs.Sections.{entries_left}
+use Rattle.form_reader.specs.Views.{export_of}
+use Rattle.form_rules.specs.Source.{source_module}
+use Rattle.form_rules.specs.Sections.{entries_left}
 use Rattle.form_rules.proofs.ExportNames.{Gathers}
 use Rattle.rule_breaks.proofs.exports.first_repeated.Given as goal
 

@@ -1,5 +1,5 @@
 use Rattle.std.proofs.Common.{subst}
-use Rattle.form_lists.specs.Views.{lists_of}
+use Rattle.form_rules.specs.Views.{lists_of}
 use Rattle.rule_breaks.specs.Breaks.{IsFirstBreak}
 use Rattle.rule_breaks.proofs.Lacking.{lacks_function, lacks_tag, lacks_table_type, lacks_memory, lacks_import, lacks_table, lacks_global, lacks_export, lacks_start, lacks_element, lacks_data_count, lacks_body, lacks_segment, no_type_broken}
 use Rattle.rule_breaks.proofs.faults.fault_at.Goals as goal

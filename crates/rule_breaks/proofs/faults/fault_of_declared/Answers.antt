@@ -1,7 +1,7 @@
 use Rattle.std.proofs.Common.{subst}
 use Rattle.rule_spec.specs.declared.rules.Rule.TheVariants.{L1}
 use Rattle.rule_spec.specs.Lists.{lists_of_module}
-use Rattle.form_data.specs.Views.{module_of}
+use Rattle.form_reader.specs.Views.{module_of}
 use Rattle.rule_breaks.specs.Breaks.{IsFirstBreak}
 use Rattle.rule_breaks.proofs.Lacking.{lacks_type, only_types}
 use Rattle.rule_breaks.proofs.faults.fault_of_declared.Goals as goal

@@ -1,6 +1,6 @@
 use Rattle.std.proofs.Common.{sym, subst}
-use Rattle.form_data.specs.Views.{body_of}
-use Rattle.form_lists.specs.Views.{lists_of}
+use Rattle.form_reader.specs.Views.{body_of}
+use Rattle.form_rules.specs.Views.{lists_of}
 use Rattle.rule_breaks.specs.FaultKept.{BodyFits}
 use Rattle.rule_breaks.proofs.FirstPast.{none_past}
 use Rattle.rule_breaks.proofs.Referring.{body_refers}

@@ -1,5 +1,5 @@
 use Rattle.std.proofs.Common.{arith, rules}
-use Rattle.form_data.specs.Views.{export_of}
+use Rattle.form_reader.specs.Views.{export_of}
 use Rattle.rule_breaks.proofs.Searching.{passes_none, passes_more}
 use Rattle.rule_breaks.proofs.Earlier.{IsOther, none_before, none_at_all, same_name, same_bytes, other_bytes}
 use Rattle.rule_breaks.proofs.faults_entries.earlier_export.Goals as goal

@@ -1,6 +1,6 @@
 use Rattle.std.proofs.Common.{sym, subst}
-use Rattle.form_data.specs.Views.{table_of}
-use Rattle.form_lists.specs.Views.{lists_of}
+use Rattle.form_reader.specs.Views.{table_of}
+use Rattle.form_rules.specs.Views.{lists_of}
 use Rattle.rule_breaks.specs.Kept.{TableKeeps}
 use Rattle.rule_breaks.proofs.FirstPast.{none_past}
 use Rattle.rule_breaks.proofs.Referring.{table_refers}

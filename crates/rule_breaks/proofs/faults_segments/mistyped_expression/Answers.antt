@@ -1,8 +1,8 @@
 use Rattle.std.proofs.Common.{ap, map}
-use Rattle.form_data.specs.Views.{expression_of}
+use Rattle.form_reader.specs.Views.{expression_of}
 use Rattle.rule_spec.specs.declared.classes.Class.TheVariants as class
 use Rattle.rule_spec.specs.Typing.{HasClass}
-use Rattle.form_lists.specs.Views.{lists_of}
+use Rattle.form_rules.specs.Views.{lists_of}
 use Rattle.rule_breaks.proofs.Searching.{passes_more}
 use Rattle.rule_breaks.proofs.faults_segments.mistyped_expression.Goals as goal
 

@@ -1,9 +1,9 @@
 use Rattle.std.proofs.Common.{◌∙◌, sym}
 use Rattle.rule_spec.specs.Lists.{lists_of_module}
 use Rattle.rule_spec.specs.TypeRules.{IsDeclaredWell}
-use Rattle.form_data.specs.Views.{sub_type_of}
-use Rattle.form_lists.specs.Source.{source_module}
-use Rattle.form_lists.proofs.Taking.{taken}
+use Rattle.form_reader.specs.Views.{sub_type_of}
+use Rattle.form_rules.specs.Source.{source_module}
+use Rattle.form_rules.proofs.Taking.{taken}
 use Rattle.rule_breaks.specs.Faults.{IsDeclaredFault}
 use Rattle.rule_breaks.proofs.DeclaredWell.{same}
 use Rattle.rule_breaks.proofs.Numbered.{at_given, at_from}

@@ -1,5 +1,5 @@
 use Rattle.std.proofs.Common.{refl, sym, subst}
-use Rattle.form_lists.proofs.Taking.{taken}
+use Rattle.form_rules.proofs.Taking.{taken}
 use Rattle.form_reader.specs.Input.{Takes}
 use Rattle.rule_breaks.proofs.Numbered.{remaining_all, passed, reached, ran_out}
 use Rattle.rule_breaks.proofs.finding.advance_to.Goals as goal

@@ -1,5 +1,5 @@
 use Rattle.std.specs.Prelude.{length}
-use Rattle.form_lists.specs.Walk.{walk_left}
+use Rattle.form_rules.specs.Walk.{walk_left}
 use Rattle.rule_breaks.proofs.Numbered.{Remaining}
 use Rattle.rule_breaks.proofs.finding.advance_to.Given as goal
 

@@ -1,6 +1,6 @@
 use Rattle.std.specs.List.{flat_map}
-use Rattle.form_lists.specs.Source.{source_module}
-use Rattle.form_lists.specs.Sections.{entries_left}
+use Rattle.form_rules.specs.Source.{source_module}
+use Rattle.form_rules.specs.Sections.{entries_left}
 use Rattle.rule_breaks.proofs.Numbered.{Remaining}
 use Rattle.rule_breaks.proofs.finding.entry_at.Given as goal
 

@@ -1,7 +1,7 @@
 use Rattle.std.proofs.Common.{Some, ap, rules}
 use Rattle.std.specs.List.{flat_map}
 use Rattle.wasm_spec.specs.Module.{starts_of_section}
-use Rattle.form_lists.specs.Source.{sections_in}
+use Rattle.form_rules.specs.Source.{sections_in}
 use Rattle.rule_breaks.proofs.Searching.{parts_step}
 use Rattle.rule_breaks.proofs.Numbered.{remaining_all, passed, reached, ran_out}
 use Rattle.rule_breaks.proofs.finding.start_at.Goals as goal

@@ -1,6 +1,6 @@
 use Rattle.std.specs.List.{flat_map}
 use Rattle.wasm_spec.specs.Module.{data_counts_of_section}
-use Rattle.form_lists.specs.Source.{source_module, sections_left}
+use Rattle.form_rules.specs.Source.{source_module, sections_left}
 use Rattle.rule_breaks.proofs.Numbered.{Remaining}
 use Rattle.rule_breaks.proofs.finding.stated_at.Given as goal
 

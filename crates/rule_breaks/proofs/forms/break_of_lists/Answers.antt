@@ -1,4 +1,4 @@
-use Rattle.form_data.specs.Views.{module_of}
+use Rattle.form_reader.specs.Views.{module_of}
 use Rattle.rule_breaks.proofs.forms.break_of_lists.Goals as goal
 
 -- where the first rule is kept, types are numbered

@@ -1,5 +1,5 @@
 use Rattle.rule_spec.specs.Lists.{lists_of_module}
-use Rattle.form_data.specs.Views.{module_of}
+use Rattle.form_reader.specs.Views.{module_of}
 use Rattle.rule_breaks.proofs.Located.{none_where_kept, first_where_broken}
 use Rattle.rule_breaks.proofs.forms.locate_break.Goals as goal
 

@@ -3,7 +3,7 @@ use Rattle.std.specs.Prelude.{IfOk}
 use Rattle.rule_spec.specs.declared.rules.Rule.{Rule}
 use Rattle.rule_spec.specs.declared.rules.Rule.TheVariants.{L1}
 use Rattle.rule_spec.specs.Lists.{lists_of_module}
-use Rattle.form_data.specs.Views.{module_of}
+use Rattle.form_reader.specs.Views.{module_of}
 use Rattle.rule_breaks.specs.Breaks.{Locates}
 use Rattle.rule_breaks.proofs.Located.{later}
 use Rattle.rule_breaks.proofs.forms.located_in_form.Goals as goal

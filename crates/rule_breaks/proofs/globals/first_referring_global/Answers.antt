@@ -1,8 +1,8 @@
 use Rattle.std.proofs.Common.{◌↔◌, IsTrue, length, subst, rules}
-use Rattle.form_data.specs.Views.{global_of}
+use Rattle.form_reader.specs.Views.{global_of}
 use Rattle.rule_spec.specs.References.{GlobalRefersIn}
-use Rattle.form_lists.specs.Views.{lists_of}
-use Rattle.form_lists.proofs.Taking.{taken}
+use Rattle.form_rules.specs.Views.{lists_of}
+use Rattle.form_rules.proofs.Taking.{taken}
 use Rattle.rule_breaks.proofs.Searching.{passes_none, passes_more, passes_fails, passes_ended}
 use Rattle.rule_breaks.proofs.globals.first_referring_global.Goals as goal
 

@@ -1,10 +1,10 @@
 use Rattle.std.proofs.Common.{length}
 use Rattle.wasm_spec.specs.Module.{globals_of_section}
-use Rattle.form_data.specs.Views.{global_of}
+use Rattle.form_reader.specs.Views.{global_of}
 use Rattle.rule_spec.specs.References.{GlobalRefersIn}
 use Rattle.form_reader.specs.SectionRows.{global_entry}
-use Rattle.form_lists.specs.Walk.{walk_left}
-use Rattle.form_lists.specs.Views.{lists_of}
+use Rattle.form_rules.specs.Walk.{walk_left}
+use Rattle.form_rules.specs.Views.{lists_of}
 use Rattle.rule_breaks.proofs.Searching.{Passes}
 use Rattle.rule_breaks.proofs.globals.first_referring_global.Given as goal
 

@@ -1,7 +1,7 @@
 use Rattle.std.proofs.Common.{length, ap, arith}
-use Rattle.form_data.specs.Views.{global_of}
-use Rattle.form_lists.specs.Views.{lists_of}
-use Rattle.form_lists.proofs.Taking.{taken}
+use Rattle.form_reader.specs.Views.{global_of}
+use Rattle.form_rules.specs.Views.{lists_of}
+use Rattle.form_rules.proofs.Taking.{taken}
 use Rattle.rule_breaks.proofs.UntypedGlobals.{globals_pass_none, globals_pass_more, globals_pass_fails, globals_pass_ended}
 use Rattle.rule_breaks.proofs.globals.first_untyped_global.Goals as goal
 

@@ -1,8 +1,8 @@
 use Rattle.std.proofs.Common.{Some}
 use Rattle.wasm_spec.specs.Module.{starts_of_section}
 use Rattle.rule_spec.specs.Indices.{CanStart}
-use Rattle.form_lists.specs.Source.{sections_in}
-use Rattle.form_lists.specs.Views.{lists_of}
+use Rattle.form_rules.specs.Source.{sections_in}
+use Rattle.form_rules.specs.Views.{lists_of}
 use Rattle.rule_breaks.proofs.Searching.{passes_more, passes_fails, parts_step}
 use Rattle.rule_breaks.proofs.indices.first_start.Goals as goal
 

@@ -1,8 +1,8 @@
 use Rattle.std.specs.List.{flat_map}
 use Rattle.wasm_spec.specs.Module.{starts_of_section}
 use Rattle.rule_spec.specs.Indices.{CanStart}
-use Rattle.form_lists.specs.Source.{source_module, sections_left}
-use Rattle.form_lists.specs.Views.{lists_of}
+use Rattle.form_rules.specs.Source.{source_module, sections_left}
+use Rattle.form_rules.specs.Views.{lists_of}
 use Rattle.rule_breaks.proofs.Searching.{Passes}
 use Rattle.rule_breaks.proofs.indices.first_start.Given as goal
 

@@ -1,6 +1,6 @@
 use Rattle.std.proofs.Common.{◌≡◌, Err, ap, sym, ◌∙◌}
 use Rattle.form_reader.specs.declared.error.ReadError.TheVariants as read
-use Rattle.form_data.specs.Views.{module_of}
+use Rattle.form_reader.specs.Views.{module_of}
 use Rattle.rule_breaks.proofs.PlacedEntries.{lacks_read}
 use Rattle.rule_breaks.proofs.list_places.list_entry_place.Goals as goal
 

@@ -1,5 +1,5 @@
 use Rattle.std.proofs.Common.{ap, map}
-use Rattle.form_data.specs.Views.{expression_of}
+use Rattle.form_reader.specs.Views.{expression_of}
 use Rattle.rule_breaks.specs.Named.{expression_types}
 use Rattle.rule_breaks.proofs.Searching.{empty}
 use Rattle.rule_breaks.proofs.FirstPast.{remains_more, remains_found, remains_ended}

@@ -1,5 +1,5 @@
 use Rattle.std.proofs.Common.{length, map}
-use Rattle.form_data.specs.Views.{expression_of}
+use Rattle.form_reader.specs.Views.{expression_of}
 use Rattle.rule_breaks.specs.Named.{expression_types}
 use Rattle.rule_breaks.proofs.FirstPast.{Remains}
 use Rattle.rule_breaks.proofs.named.expressions_past.Given as goal

@@ -1,6 +1,6 @@
 use Rattle.std.proofs.Common.{map, refl, sym, subst}
 use Rattle.std.specs.List.{flat_map}
-use Rattle.form_data.specs.Views.{expression_of, items_of}
+use Rattle.form_reader.specs.Views.{expression_of, items_of}
 use Rattle.rule_breaks.specs.Named.{expression_types, item_types}
 use Rattle.rule_breaks.specs.Past.{FindsPast}
 use Rattle.rule_breaks.proofs.FirstPast.{none_past, past_right}

@@ -1,6 +1,6 @@
 use Rattle.std.proofs.Common.{refl, sym, subst}
 use Rattle.wasm_spec.specs.TypeData.{field_edges, composite_edges, field_of}
-use Rattle.form_data.specs.Views.{composite_of}
+use Rattle.form_reader.specs.Views.{composite_of}
 use Rattle.rule_breaks.specs.Past.{FindsPast}
 use Rattle.rule_breaks.proofs.FirstPast.{past_slice}
 use Rattle.rule_breaks.proofs.named.kind_past.Goals as goal

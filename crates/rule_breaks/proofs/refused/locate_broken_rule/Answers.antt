@@ -1,5 +1,5 @@
 use Rattle.std.proofs.Common.{◌≡◌, Err, ap, sym, subst, ◌∙◌}
-use Rattle.form_data.specs.Views.{module_of}
+use Rattle.form_reader.specs.Views.{module_of}
 use Rattle.form_reader.specs.declared.error.ReadError.TheVariants as read
 use Rattle.rule_spec.specs.Rules.{Keeps}
 use Rattle.wasm_spec.specs.Module.{Module}

@@ -1,10 +1,10 @@
 use Rattle.std.proofs.Common.{◌≡◌, ◌<◌, length, refl, sym, ap, subst, ◌∙◌, arith}
 use Rattle.wasm_spec.specs.Module.{types}
-use Rattle.form_lists.specs.Source.{source_module}
+use Rattle.form_rules.specs.Source.{source_module}
 use Rattle.std.proofs.lemmas.List.{length-map}
 use Rattle.form_reader.specs.Input.{Takes}
-use Rattle.form_data.specs.Views.{group_of, sub_type_of}
-use Rattle.form_lists.proofs.Taking.{taken}
+use Rattle.form_reader.specs.Views.{group_of, sub_type_of}
+use Rattle.form_rules.proofs.Taking.{taken}
 use Rattle.rule_breaks.proofs.SoughtEntries.{seeks_first, seeks_more, seeks_ended, is_group}
 use Rattle.rule_breaks.proofs.section_entries.group_of_type.Goals as goal
 

@@ -1,6 +1,6 @@
 use Rattle.std.proofs.Common.{sym, subst, rules}
-use Rattle.form_data.specs.Views.{import_of}
-use Rattle.form_lists.specs.Source.{source_module}
+use Rattle.form_reader.specs.Views.{import_of}
+use Rattle.form_rules.specs.Source.{source_module}
 use Rattle.wasm_spec.specs.Module.{imports}
 use Rattle.rule_breaks.specs.declared.section_entries.SectionEntry.{SectionEntry}
 use Rattle.rule_breaks.specs.ImportKinds.{IsIndexed}

@@ -1,7 +1,7 @@
 use Rattle.wasm_spec.specs.Module.{imports, imports_of_section}
-use Rattle.form_data.specs.Views.{import_of}
-use Rattle.form_lists.specs.Sections.{entries_left}
-use Rattle.form_lists.specs.Source.{source_module}
+use Rattle.form_reader.specs.Views.{import_of}
+use Rattle.form_rules.specs.Sections.{entries_left}
+use Rattle.form_rules.specs.Source.{source_module}
 use Rattle.rule_breaks.proofs.SoughtEntries.{SeeksImport}
 use Rattle.rule_breaks.proofs.section_entries.indexed_entry.Given as goal
 

@@ -3,7 +3,7 @@ use Rattle.std.specs.Prelude.{IfOk}
 use Rattle.wasm_spec.specs.Module as plain
 use Rattle.wasm_spec.specs.declared.entities.ExternalKind.TheVariants as external
 use Rattle.refusal_place.specs.declared.kind.SectionKind.TheVariants as kind
-use Rattle.form_lists.specs.Source.{source_module}
+use Rattle.form_rules.specs.Source.{source_module}
 use Rattle.rule_breaks.specs.declared.lists.ModuleList.{ModuleList}
 use Rattle.rule_breaks.specs.SectionEntries.{IsEntryOf}
 use Rattle.rule_breaks.proofs.IndexedImports.{indexed_in_space, functions_alike, tables_alike, memories_alike, tags_alike}

@@ -1,6 +1,6 @@
 use Rattle.std.proofs.Common.{subst, arith}
 use Rattle.wasm_spec.specs.Module as plain
-use Rattle.form_lists.specs.Source.{source_module}
+use Rattle.form_rules.specs.Source.{source_module}
 use Rattle.rule_breaks.specs.declared.lists.ModuleList.{ModuleList}
 use Rattle.rule_breaks.specs.Listed.{IsListed}
 use Rattle.rule_breaks.proofs.PlacedEntries.{types_long}

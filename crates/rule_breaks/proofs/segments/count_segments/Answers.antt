@@ -1,5 +1,5 @@
 use Rattle.std.proofs.Common.{length, refl, ap, arith}
-use Rattle.form_lists.proofs.Taking.{taken}
+use Rattle.form_rules.proofs.Taking.{taken}
 use Rattle.form_rules.proofs.Walking.{all_counted}
 use Rattle.rule_breaks.proofs.segments.count_segments.Goals as goal
 

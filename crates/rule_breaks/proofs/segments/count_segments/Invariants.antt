@@ -1,9 +1,9 @@
 use Rattle.std.proofs.Common.{◌≡◌, ◌+◌, length}
 use Rattle.wasm_spec.specs.Module.{segments, segments_of_section}
-use Rattle.form_data.specs.Views.{segment_of}
+use Rattle.form_reader.specs.Views.{segment_of}
 use Rattle.form_reader.specs.SectionRows.{data_segment}
-use Rattle.form_lists.specs.Source.{source_module}
-use Rattle.form_lists.specs.Walk.{walk_left}
+use Rattle.form_rules.specs.Source.{source_module}
+use Rattle.form_rules.specs.Walk.{walk_left}
 use Rattle.rule_breaks.proofs.segments.count_segments.Given as goal
 
 -- the remaining ones are still to be counted

@@ -1,7 +1,7 @@
 use Rattle.std.proofs.Common.{rules}
-use Rattle.form_data.specs.Views.{segment_of}
-use Rattle.form_lists.specs.Views.{lists_of}
-use Rattle.form_lists.proofs.Taking.{taken}
+use Rattle.form_reader.specs.Views.{segment_of}
+use Rattle.form_rules.specs.Views.{lists_of}
+use Rattle.form_rules.proofs.Taking.{taken}
 use Rattle.rule_breaks.specs.Kept.{SegmentKeeps}
 use Rattle.rule_breaks.proofs.Searching.{passes_none, passes_more, passes_fails, passes_ended}
 use Rattle.rule_breaks.proofs.segments.first_segment.Goals as goal

@@ -1,6 +1,6 @@
 use Rattle.std.proofs.Common.{refl}
 use Rattle.rule_spec.specs.TypeRules.{NamesFunctionType}
-use Rattle.form_lists.specs.Views.{lists_of}
+use Rattle.form_rules.specs.Views.{lists_of}
 use Rattle.rule_breaks.proofs.Searching.{empty, passes_none, passes_all, passes_more, passes_fails}
 use Rattle.rule_breaks.proofs.types.first_of_no_function_type.Goals as goal
 

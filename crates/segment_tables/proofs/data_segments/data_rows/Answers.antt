@@ -2,7 +2,7 @@ use Rattle.std.proofs.Common.{map, ap, sym, subst, arith}
 use Rattle.std.proofs.lemmas.List.{append-nil, take_all}
 use Rattle.std.specs.List.{flat_map}
 use Rattle.wasm_spec.specs.Module.{segments_of_section}
-use Rattle.form_data.specs.Views.{segment_of, payload_of}
+use Rattle.form_reader.specs.Views.{segment_of, payload_of}
 use Rattle.segment_tables.specs.Expressions.{HasExpressions}
 use Rattle.segment_tables.specs.DataSegments.{data_told, HasSegments}
 use Rattle.segment_tables.proofs.Rows.{listed_more}

@@ -1,5 +1,5 @@
 use Rattle.std.proofs.Common.{◌++◌}
-use Rattle.form_data.specs.Views.{segment_of}
+use Rattle.form_reader.specs.Views.{segment_of}
 use Rattle.segment_tables.specs.DataSegments.{data_expressions}
 use Rattle.segment_tables.proofs.Rows.{has_segment}
 use Rattle.segment_tables.proofs.data_segments.push_segment.Goals as goal

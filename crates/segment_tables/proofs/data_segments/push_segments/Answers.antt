@@ -1,6 +1,6 @@
 use Rattle.std.proofs.Common.{◌++◌, map, take, sym, subst, arith}
 use Rattle.std.proofs.lemmas.List.{append-nil, take_all}
-use Rattle.form_data.specs.Views.{segment_of}
+use Rattle.form_reader.specs.Views.{segment_of}
 use Rattle.segment_tables.specs.DataSegments.{HasSegments}
 use Rattle.segment_tables.proofs.Rows.{mapped_more}
 use Rattle.segment_tables.proofs.data_segments.push_segments.Goals as goal

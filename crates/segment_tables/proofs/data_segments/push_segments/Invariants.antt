@@ -1,7 +1,7 @@
 use Rattle.std.proofs.Common.{List, ◌++◌, map, take}
 use Rattle.wasm_spec.specs.Module as plain
 use Rattle.wasm_spec.specs.Module.{Expression}
-use Rattle.form_data.specs.Views.{segment_of}
+use Rattle.form_reader.specs.Views.{segment_of}
 use Rattle.segment_tables.specs.DataSegments.{HasSegments}
 use Rattle.segment_tables.proofs.data_segments.push_segments.Given as goal
 

@@ -2,7 +2,7 @@ use Rattle.std.proofs.Common.{map, subst, arith}
 use Rattle.std.proofs.lemmas.List.{take_all}
 use Rattle.std.specs.List.{flat_map}
 use Rattle.wasm_spec.specs.Module.{elements_of_section}
-use Rattle.form_data.specs.Views.{element_of, payload_of}
+use Rattle.form_reader.specs.Views.{element_of, payload_of}
 use Rattle.segment_tables.specs.Elements.{HasElements}
 use Rattle.segment_tables.proofs.Rows.{listed_more}
 use Rattle.segment_tables.proofs.elements.element_rows.Goals as goal

@@ -1,7 +1,7 @@
 use Rattle.std.proofs.Common.{map, take}
 use Rattle.std.specs.List.{flat_map}
 use Rattle.wasm_spec.specs.Module.{elements_of_section}
-use Rattle.form_data.specs.Views.{payload_of}
+use Rattle.form_reader.specs.Views.{payload_of}
 use Rattle.segment_tables.specs.Elements.{HasElements}
 use Rattle.segment_tables.proofs.elements.element_rows.Given as goal
 

@@ -2,7 +2,7 @@ use Rattle.std.proofs.Common.{◌≡◌, ◌+◌, ◌++◌, ◌∙◌, length, m
 use Rattle.std.proofs.lemmas.Grind.{common_steps}
 use Rattle.std.proofs.lemmas.List.{length-append}
 use Rattle.std.specs.List.{flat_map}
-use Rattle.form_data.specs.Views.{expression_of, element_of}
+use Rattle.form_reader.specs.Views.{expression_of, element_of}
 use Rattle.segment_tables.specs.Expressions.{HasExpressions}
 use Rattle.segment_tables.specs.Elements.{offsets_in, expressions_in, element_expressions, element_row}
 use Rattle.segment_tables.proofs.Rows.{expressions_length, has_element}

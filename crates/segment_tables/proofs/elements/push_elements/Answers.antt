@@ -1,6 +1,6 @@
 use Rattle.std.proofs.Common.{◌++◌, map, take, sym, subst, arith}
 use Rattle.std.proofs.lemmas.List.{append-nil, take_all}
-use Rattle.form_data.specs.Views.{element_of}
+use Rattle.form_reader.specs.Views.{element_of}
 use Rattle.segment_tables.specs.Elements.{HasElements}
 use Rattle.segment_tables.proofs.Rows.{mapped_more}
 use Rattle.segment_tables.proofs.elements.push_elements.Goals as goal

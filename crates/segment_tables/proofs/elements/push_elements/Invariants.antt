@@ -1,6 +1,6 @@
 use Rattle.std.proofs.Common.{List, ◌++◌, map, take}
 use Rattle.wasm_spec.specs.Module as plain
-use Rattle.form_data.specs.Views.{element_of}
+use Rattle.form_reader.specs.Views.{element_of}
 use Rattle.segment_tables.specs.Elements.{HasElements}
 use Rattle.segment_tables.proofs.elements.push_elements.Given as goal
 

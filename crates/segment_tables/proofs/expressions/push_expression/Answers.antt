@@ -1,6 +1,6 @@
 use Rattle.std.proofs.Common.{◌++◌, map, ap, ◌∙◌, arith}
 use Rattle.std.proofs.lemmas.Grind.{common_steps}
-use Rattle.form_data.specs.Views.{expression_of}
+use Rattle.form_reader.specs.Views.{expression_of}
 use Rattle.segment_tables.specs.Operators.{operator_row}
 use Rattle.segment_tables.proofs.Rows.{has_expression}
 use Rattle.segment_tables.proofs.expressions.push_expression.Goals as goal

@@ -1,6 +1,6 @@
 use Rattle.std.proofs.Common.{List, ◌++◌, map, take}
 use Rattle.wasm_spec.specs.Module.{Expression}
-use Rattle.form_data.specs.Views.{expression_of}
+use Rattle.form_reader.specs.Views.{expression_of}
 use Rattle.segment_tables.specs.Expressions.{HasExpressions}
 use Rattle.segment_tables.proofs.expressions.push_expressions.Given as goal
 

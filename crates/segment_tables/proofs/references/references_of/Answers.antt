@@ -1,6 +1,6 @@
 use Rattle.std.proofs.Common.{◌++◌, map, ap, ◌∙◌, subst}
 use Rattle.std.proofs.lemmas.List.Filters.{dedup_is}
-use Rattle.form_data.specs.Views.{payload_of}
+use Rattle.form_reader.specs.Views.{payload_of}
 use Rattle.segment_tables.specs.References.{module_references, Listed}
 use Rattle.segment_tables.proofs.Listing.{listed}
 use Rattle.segment_tables.proofs.references.references_of.Goals as goal

@@ -1,5 +1,5 @@
 use Rattle.std.proofs.Common.{◌≡◌, ◌∙◌, map, ap, sym, subst}
-use Rattle.form_data.specs.Views.{payload_of, module_of}
+use Rattle.form_reader.specs.Views.{payload_of, module_of}
 use Rattle.wasm_spec.specs.Module.{segments}
 use Rattle.segment_tables.specs.DataSegments.{data_told, HasSegments}
 use Rattle.segment_tables.specs.Elements.{HasElements}

@@ -6,7 +6,7 @@ use Rattle.init_plan.specs.Views.{memory_plan_of}
 use Rattle.init_plan.specs.declared.error.PlanError.TheVariants as plan
 use Rattle.form_reader.proofs.SectionLaws.{module_once}
 use Rattle.init_plan.proofs.Holding.{data_agree, elements_agree, globals_agree}
-use Rattle.plan.specs.Errors.{error_of_translation}
+use Rattle.plan_text.specs.Errors.{error_of_translation}
 use Rattle.translate.specs.Options.{init_options}
 use Rattle.translate.proofs.AllPlanned.{room_first, room_next, holds_data, all_planned}
 use Rattle.translate.proofs.PlannedMemories.{data_size}

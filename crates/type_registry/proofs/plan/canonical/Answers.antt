@@ -1,6 +1,6 @@
 use Rattle.std.proofs.Common.{◌∙◌, map, ap, arith}
 use Rattle.wasm_spec.specs.TypeData.{map_group}
-use Rattle.type_data.specs.Names.{named}
+use Rattle.type_spec.specs.Names.{named}
 use Rattle.wasm_index.specs.Index.{number_of}
 use Rattle.wasm_types.specs.TypeViews.{group_of}
 use Rattle.wasm_trace.specs.Canonical.{consed_edge}

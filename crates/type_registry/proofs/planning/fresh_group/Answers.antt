@@ -1,7 +1,7 @@
 use Rattle.std.proofs.Common.{arith, ◌≡◌, ◌∙◌, ◌++◌, length, map, take, ap}
 use Rattle.std.proofs.lemmas.List.{length-map, length-take-le}
 use Rattle.wasm_spec.specs.TypeData.{map_group}
-use Rattle.type_data.specs.Names.{named}
+use Rattle.type_spec.specs.Names.{named}
 use Rattle.type_spec.specs.Interned.{Span}
 use Rattle.wasm_index.specs.Index.{number_of}
 use Rattle.wasm_types.specs.TypeViews.{group_of}

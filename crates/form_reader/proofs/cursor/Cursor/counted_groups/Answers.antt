@@ -1,6 +1,6 @@
 use Rattle.std.proofs.Common.{◌++◌, ◌∷◌, []}
 use Rattle.std.proofs.lemmas.Result.{err_from_is_err_and}
-use Rattle.form_data.specs.Views.{group_of}
+use Rattle.form_reader.specs.Views.{group_of}
 use Rattle.form_reader.specs.ReadingNumbers.{vector_at}
 use Rattle.form_reader.specs.TypeRows.{group}
 use Rattle.form_reader.proofs.Loop.{one_fails_all}

@@ -1,6 +1,6 @@
 use Rattle.std.proofs.Common.{map, take}
 use Rattle.wasm_spec.specs.TypeData.{group_edges}
-use Rattle.form_data.specs.Views.{sub_type_of}
+use Rattle.form_reader.specs.Views.{sub_type_of}
 use Rattle.form_types.specs.Codes.{group_codes}
 use Rattle.form_types.specs.Keys.{Adds}
 use Rattle.form_types.proofs.canonical.CanonicalGroup.add_group.Given as goal

@@ -1,7 +1,7 @@
 use Rattle.std.proofs.Common.{◌≡◌, ◌∙◌, ◌+◌, ◌-◌, ◌++◌, ◌∷◌, [], length, map, replicate, sym, ap, arith, length-append}
 use Rattle.std.specs.Prelude.{vec_len}
 use Rattle.std.proofs.lemmas.List.{length-map, map-append, take_all}
-use Rattle.form_data.specs.Views.{group_of, sub_type_of}
+use Rattle.form_reader.specs.Views.{group_of, sub_type_of}
 use Rattle.form_types.proofs.Listing.{numbers-more, spans-more}
 use Rattle.form_types.proofs.Looking.{length_numbers}
 use Rattle.form_types.proofs.Steps.{total-more}

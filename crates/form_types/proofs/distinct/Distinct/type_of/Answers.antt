@@ -1,8 +1,8 @@
 use Rattle.std.proofs.Common.{◌≡◌, ◌∙◌, ◌-◌, ◌<◌, ℕ, List, [], length, get_or, map, Some, sym, ap, arith}
 use Rattle.std.proofs.lemmas.List.{length-map, get_or-map}
 use Rattle.std.proofs.lemmas.Option.{slice_get-get_or}
-use Rattle.form_data.specs.Views.{sub_type_of, group_of}
-use Rattle.form_data.specs.declared.types.RecGroup.{RecGroup}
+use Rattle.form_reader.specs.Views.{sub_type_of, group_of}
+use Rattle.form_reader.specs.declared.types.RecGroup.{RecGroup}
 use Rattle.form_types.specs.Types.{NamedGroup, types_by_id}
 use Rattle.form_types.proofs.Looking.{length_numbers, length_spans, member-of, member-in}
 use Rattle.form_types.proofs.distinct.Distinct.type_of.Goals as goal

@@ -3,7 +3,7 @@ use Rattle.std.specs.Vec.{with_items}
 use Rattle.std.specs.List.{range_with_len}
 use Rattle.std.proofs.lemmas.List.{length-map, with_items_is}
 use Rattle.wasm_spec.specs.TypeData.{map_group}
-use Rattle.form_data.specs.Views.{group_of, sub_type_of}
+use Rattle.form_reader.specs.Views.{group_of, sub_type_of}
 use Rattle.form_types.specs.EarlierTypes.{ids_of}
 use Rattle.form_types.specs.Placed.{placed, named_index}
 use Rattle.form_types.specs.Finding.{next_key, first_of}

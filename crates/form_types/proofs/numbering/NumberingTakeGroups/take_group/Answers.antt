@@ -3,7 +3,7 @@ use Rattle.std.proofs.lemmas.List.{length-map, nil_from_length}
 use Rattle.std.specs.List.{All}
 use Rattle.wasm_spec.specs.Sizes.{HasShortLists}
 use Rattle.wasm_spec.specs.TypeData.{group_edges}
-use Rattle.form_data.specs.Views.{group_of, sub_type_of}
+use Rattle.form_reader.specs.Views.{group_of, sub_type_of}
 use Rattle.form_types.specs.Keys.{GroupKey, read_key}
 use Rattle.form_types.proofs.Built.{few-ids}
 use Rattle.form_types.proofs.Ruled.{size-places}

@@ -1,5 +1,5 @@
 use Rattle.rule_spec.specs.declared.rules.Rule.TheVariants.{L1}
-use Rattle.form_data.specs.Views.{module_of}
+use Rattle.form_reader.specs.Views.{module_of}
 use Rattle.form_types.proofs.types.Types.build.Goals as goal
 
 pub unreachable-requires : goal.unreachable-requires

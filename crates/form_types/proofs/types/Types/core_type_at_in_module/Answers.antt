@@ -2,7 +2,7 @@ use Rattle.std.proofs.Common.{◌≡◌, ◌∙◌, ◌<◌, ℕ, length, get_or
 use Rattle.std.proofs.lemmas.List.{length-map, get_or-map}
 use Rattle.std.proofs.lemmas.List.Elements.{All-get_or}
 use Rattle.wasm_spec.specs.declared.types.CoreTypeId.{CoreTypeId}
-use Rattle.form_data.specs.Views.{group_of}
+use Rattle.form_reader.specs.Views.{group_of}
 use Rattle.form_types.specs.Types.{types_by_id}
 use Rattle.form_types.proofs.types.Types.core_type_at_in_module.Goals as goal
 

@@ -1,5 +1,5 @@
 use Rattle.std.proofs.Common.{◌∙◌, length, get_or, map, ap, arith}
-use Rattle.form_data.specs.Views.{group_of}
+use Rattle.form_reader.specs.Views.{group_of}
 use Rattle.form_types.proofs.Looking.{length_spans, members-found}
 use Rattle.form_types.proofs.types.Types.rec_group_elements.Goals as goal
 

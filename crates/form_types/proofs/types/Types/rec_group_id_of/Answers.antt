@@ -1,6 +1,6 @@
 use Rattle.std.proofs.Common.{◌∙◌, length, get_or, map, sym, ap, arith}
 use Rattle.std.proofs.lemmas.Option.{slice_get_read}
-use Rattle.form_data.specs.Views.{group_of}
+use Rattle.form_reader.specs.Views.{group_of}
 use Rattle.form_types.specs.Types.{types_by_id, group_numbers}
 use Rattle.form_types.proofs.Looking.{length_numbers, member-of}
 use Rattle.form_types.proofs.types.Types.rec_group_id_of.Goals as goal

@@ -1,6 +1,6 @@
 use Rattle.std.proofs.Common.{◌∙◌, ◌+◌, ap, refl}
 use Rattle.std.proofs.lemmas.Result.{on_ok_weaker}
-use Rattle.form_data.specs.Views.{element_of, element_kind_of}
+use Rattle.form_reader.specs.Views.{element_of, element_kind_of}
 use Rattle.wasm_index.specs.declared.index.Index.{Index}
 use Rattle.wasm_index.specs.declared.spaces.ElemSpace.{ElemSpace}
 use Rattle.wasm_index.specs.declared.spaces.TableSpace.{TableSpace}

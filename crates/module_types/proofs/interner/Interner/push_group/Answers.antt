@@ -8,8 +8,8 @@ use Rattle.std.proofs.lemmas.Result.{on_ok_weaker}
 use Rattle.std.specs.declared.ops.Range.{Range}
 use Rattle.wasm_spec.specs.TypeData.{SubType, map_sub_type, sub_type_edges}
 use Rattle.type_spec.specs.Interned.{Interned, Built, assign_trampolines, opened, with_group}
-use Rattle.form_data.specs.declared.types.SubType.{SubType as Read}
-use Rattle.form_data.specs.Views as form
+use Rattle.form_reader.specs.declared.types.SubType.{SubType as Read}
+use Rattle.form_reader.specs.Views as form
 use Rattle.form_types.specs.Types.{TypesData, IsSound}
 use Rattle.wasm_spec.specs.declared.types.UnpackedIndex.{UnpackedIndex}
 use Rattle.wasm_types.specs.declared.sub.WasmSubType.{WasmSubType}

@@ -1,5 +1,5 @@
 use Rattle.std.proofs.Common.{rules, sym}
-use Rattle.type_data.specs.Names.{becomes-mapped}
+use Rattle.type_spec.specs.Names.{becomes-mapped}
 use Rattle.wasm_index.specs.Index.{number_of}
 use Rattle.wasm_trace.specs.Canonical.{CanBeConsedEdge, IsConsedEdge}
 use Rattle.wasm_trace.proofs.Runs.{RunMut-rewrites, RunMut-comes}
