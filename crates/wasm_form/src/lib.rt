@@ -1,8 +1,8 @@
 //! The public paths of the reader and the check, for users who want a module read and checked
 //! without a plan.
 //!
-//! The crate has no code of its own. It exports the calls and types of `form_data`, `form_reader`,
-//! `form_rules` and `form_types`, with the contracts of those crates.
+//! The crate has no code of its own. It exports the calls and types of `form_reader`, `form_rules`
+//! and `form_types`, with the contracts of those crates.
 //!
 //! ```
 //! let form = read_module(alloc, bytes)?;
