@@ -5,6 +5,7 @@ use Rattle.std.proofs.Math.Logic.{⊎_elim}
 use Rattle.std.proofs.lemmas.Bool.{cases_lt, false≢true}
 use Rattle.std.proofs.lemmas.List.Elements.{All-nil, All-cons, All-head, All-tail}
 use Rattle.std.proofs.lemmas.Option.{none-some, same_Some}
+use Rattle.wasm_spec.specs.Module.{Expression}
 use Rattle.replay_spec.specs.Values.{const_value}
 use Rattle.replay_spec.specs.Data.{ActiveSegment}
 use Rattle.replay_spec.specs.Images.{ImageOptions, ImageMemory, size_of, index_of_constant, IsPlaced, bytes_on, MayBeImage, IsStatic}
@@ -87,9 +88,9 @@ decided-static options imports memories active =
 
 -- ---- images of tables
 
-decided-cells : (items : Items) → Decided (AreCells items)
+decided-cells : (items : Items (Unit {0}) Expression) → Decided (AreCells items)
 decided-cells (Functions indices) = inl tt
-decided-cells (Expressions items) = decided-all (λ e. IsSome (expression_cell e)) (λ e. decided-true (is_some (expression_cell e))) items
+decided-cells (Expressions type items) = decided-all (λ e. IsSome (expression_cell e)) (λ e. decided-true (is_some (expression_cell e))) items
 
 pub decided-taken : (lazy : Bool) (imports : ℕ) (tables : List DefinedTable) (s : ActiveElements) → Decided (MayBeTaken lazy imports tables s)
 decided-taken lazy imports tables s =

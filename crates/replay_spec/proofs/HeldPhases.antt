@@ -1,15 +1,15 @@
 -- The phases of what a plan holds of a module are the module's: no value depends on the heap type
 -- of a null.
 use Rattle.std.proofs.Common.{◌≡◌, ◌∙◌, ℕ, zero, suc, ◌+◌, List, [], ◌∷◌, ◌++◌, map, Option, None, Some, refl, ap, subst}
-use Rattle.std.specs.Prelude.{slice_get}
+use Rattle.std.specs.Prelude.{slice_get, unwrap_or}
 use Rattle.std.specs.Option.{option_map}
-use Rattle.wasm_spec.specs.Module.{Expression}
+use Rattle.wasm_spec.specs.Module.{Expression, ElementKind, ActiveElement, ElementItems, Functions, Expressions, Element}
 use Rattle.replay_spec.specs.Phases.{Phase, SamePhase}
 use Rattle.replay_spec.specs.Values.{Value, number_or_zero, offset_over}
 use Rattle.replay_spec.specs.Data.{ActiveSegment, piece_of, segments_phase, memory_sizes, memory_base}
-use Rattle.replay_spec.specs.Elements.{Items, Functions, Expressions, ActiveElements, DefinedTable, value_or_null, cell_of, item_cells, elements_piece, initial_cell, first_cell, table_sizes, table_base, elements_phase}
+use Rattle.replay_spec.specs.Elements.{DefinedTable, value_or_null, cell_of, item_cells, elements_piece, initial_cell, first_cell, table_sizes, table_base, elements_phase, items_by, active_elements}
 use Rattle.replay_spec.specs.Globals.{values_after, ReadEarlier}
-use Rattle.replay_spec.specs.Held.{any_nulls, held_segment, held_items, held_element, held_table}
+use Rattle.replay_spec.specs.Held.{any_nulls, held_segment, held_elements, held_table}
 use Rattle.replay_spec.specs.Plan.{MemoryPlan, AgreesOver, phase_by_map, phase_by_list}
 use Rattle.replay_spec.specs.Tables.{TablePlan, AgreesOnTables, planned_elements_phase}
 use Rattle.replay_spec.proofs.AnyNull.{eval-any, reads-any}
@@ -34,18 +34,24 @@ module _ (globals : List Value) (fields : ℕ → ℕ) where
   cell-held : (e : Expression) → cell_of globals fields (any_nulls e) ≡ cell_of globals fields e
   cell-held e = ap value_or_null (eval-any globals fields e)
 
-  cells-held : (es : List Expression) → map (cell_of globals fields) (map any_nulls es) ≡ map (cell_of globals fields) es
+  cells-held : (es : List Expression) → map (cell_of globals fields) (map any_nulls es) ≡ map (cell_of globals fields) (map (λ e. e) es)
   cells-held [] = refl
   cells-held (e ∷ es) = λ i. cell-held e i ∷ cells-held es i
 
-  items-held : (items : Items) → item_cells globals fields (held_items items) ≡ item_cells globals fields items
+  items-held : (items : ElementItems) → item_cells globals fields (items_by (λ type. tt) any_nulls items) ≡ item_cells globals fields (items_by (λ type. tt) (λ e. e) items)
   items-held (Functions indices) = refl
-  items-held (Expressions items) = cells-held items
+  items-held (Expressions type items) = cells-held items
 
-  pub element_pieces-held : (active : List ActiveElements) → map (elements_piece globals fields) (map held_element active) ≡ map (elements_piece globals fields) active
+  pub element_pieces-held : (elements : List Element) → map (elements_piece globals fields) (held_elements elements) ≡ map (elements_piece globals fields) (active_elements elements)
   element_pieces-held [] = refl
-  element_pieces-held (s ∷ ss) =
-      λ i. record { object = s.table; offset = number_or_zero (eval-any globals fields s.offset i); items = items-held s.items i } ∷ element_pieces-held ss i
+  element_pieces-held (e ∷ es) = by e.kind e.items (element_pieces-held es) where
+    by : (kind : ElementKind) (items : ElementItems)
+        → map (elements_piece globals fields) (held_elements es) ≡ map (elements_piece globals fields) (active_elements es)
+        → map (elements_piece globals fields) (held_elements (record { kind = kind; items = items } ∷ es))
+        ≡ map (elements_piece globals fields) (active_elements (record { kind = kind; items = items } ∷ es))
+    by (ActiveElement table offset) items rest =
+        λ i. record { object = unwrap_or table 0; offset = number_or_zero (eval-any globals fields offset i); items = items-held items i } ∷ rest i
+    by _ items rest = rest
 
   initial-held : (e : Option Expression) → initial_cell globals fields (option_map any_nulls e) ≡ initial_cell globals fields e
   initial-held None = refl
@@ -60,12 +66,12 @@ module _ (globals : List Value) (fields : ℕ → ℕ) where
   minimums-held [] = refl
   minimums-held (t ∷ ts) = λ i. t.minimum ∷ minimums-held ts i
 
-  pub elements_phase-held : (imported : List (List Value)) (tables : List DefinedTable) (active : List ActiveElements)
-      → elements_phase globals fields imported (map held_table tables) (map held_element active) ≡ elements_phase globals fields imported tables active
-  elements_phase-held imported tables active = λ i. record {
+  pub elements_phase-held : (imported : List (List Value)) (tables : List DefinedTable) (elements : List Element)
+      → elements_phase globals fields imported (map held_table tables) (held_elements elements) ≡ elements_phase globals fields imported tables (active_elements elements)
+  elements_phase-held imported tables elements = λ i. record {
     sizes = table_sizes imported (minimums-held tables i);
     base = table_base imported (λ n place. first-held tables n i);
-    pieces = element_pieces-held active i;
+    pieces = element_pieces-held elements i;
   }
 
 -- ---- globals
@@ -91,8 +97,8 @@ agrees-held imports defined active plan h = record {
       (segments_phase-held globals fields imported defined active) (h.by_list globals fields imported count);
 }
 
-pub agrees_on_tables-held : (imports : ℕ) (tables : List DefinedTable) (active : List ActiveElements) (plan : TablePlan)
-    → AgreesOnTables imports (map held_table tables) (map held_element active) plan → AgreesOnTables imports tables active plan
-agrees_on_tables-held imports tables active plan h = λ globals fields imported count.
-    subst (λ (p : Phase Value). SamePhase p (planned_elements_phase globals fields imported plan)) (elements_phase-held globals fields imported tables active)
+pub agrees_on_tables-held : (imports : ℕ) (tables : List DefinedTable) (elements : List Element) (plan : TablePlan)
+    → AgreesOnTables imports (map held_table tables) (held_elements elements) plan → AgreesOnTables imports tables (active_elements elements) plan
+agrees_on_tables-held imports tables elements plan h = λ globals fields imported count.
+    subst (λ (p : Phase Value). SamePhase p (planned_elements_phase globals fields imported plan)) (elements_phase-held globals fields imported tables elements)
     (h globals fields imported count)

@@ -5,6 +5,7 @@ use Rattle.std.specs.List.{filter_map}
 use Rattle.wasm_spec.specs.declared.types.HeapType.{HeapType}
 use Rattle.wasm_spec.specs.declared.types.HeapType.TheVariants as heap
 use Rattle.wasm_spec.specs.declared.types.AbstractHeapType.TheVariants as abstract
+use Rattle.wasm_spec.specs.declared.types.RefType.{RefType}
 use Rattle.wasm_spec.specs.declared.types.UnpackedIndex.{UnpackedIndex}
 use Rattle.wasm_spec.specs.declared.types.UnpackedIndex.TheVariants as index
 use Rattle.wasm_spec.specs.TypeData.{Composite, Func}
@@ -14,16 +15,20 @@ use Rattle.rule_spec.specs.Lists.{Lists, kind_at}
 use Rattle.replay_spec.specs.Phases.{Piece, Phase}
 use Rattle.replay_spec.specs.Values.{Value, Ref, Null, Func as function, eval, offset_over}
 
--- what a segment writes: functions, or the values of expressions
-pub data Items : Type 0 where
-  Functions : (indices : List ℕ) → Items
-  Expressions : (items : List Expression) → Items
+-- what a segment writes: functions, or the values of expressions of a type
+pub data Items (T E : Type 0) : Type 0 where
+  Functions : (indices : List ℕ) → Items T E
+  Expressions : (type : T) (items : List E) → Items T E
 
--- a segment that is written to a table at an offset
-pub record ActiveElements : Type 0 where
+-- items that are written to a table at an offset
+pub record ActiveItems (T E : Type 0) : Type 0 where
   pub table : ℕ
-  pub offset : Expression
-  pub items : Items
+  pub offset : E
+  pub items : Items T E
+
+-- an active segment without the type of its items, which says nothing about the cells
+abbrev pub ActiveElements : Type 0
+ActiveElements = ActiveItems (Unit {0}) Expression
 
 -- a defined table: its minimum size in cells, whether its heap type has functions on top, and what
 -- its cells hold at first
@@ -45,9 +50,9 @@ module _ (globals : List Value) (fields : ℕ → ℕ) where
   abbrev pub cell_of : Expression → Value
   cell_of e = value_or_null (eval globals fields e)
 
-  abbrev pub item_cells : Items → List Value
+  abbrev pub item_cells : Items (Unit {0}) Expression → List Value
   item_cells (Functions indices) = map (λ k. Ref (function k)) indices
-  item_cells (Expressions items) = map cell_of items
+  item_cells (Expressions type items) = map cell_of items
 
   abbrev pub elements_piece : ActiveElements → Piece Value
   elements_piece s = record { object = s.table; offset = offset_over globals fields s.offset; items = item_cells s.items }
@@ -82,20 +87,24 @@ elements_phase globals fields imported tables active = record {
 
 -- ---- of a module
 
--- a module's items; their type says nothing about the cells
-abbrev pub items_of_element : ElementItems → Items
-items_of_element (read.Functions indices) = Functions indices
-items_of_element (read.Expressions type items) = Expressions items
+-- where each type and each expression becomes another value
+module _ {T E : Type 0} (type_by : RefType → T) (expression_by : Expression → E) where
+  abbrev pub items_by : ElementItems → Items T E
+  items_by (read.Functions indices) = Functions indices
+  items_by (read.Expressions type items) = Expressions (type_by type) (map expression_by items)
 
--- a table that is not named is the first
-abbrev pub active_of_element : ElementKind → ElementItems → Option ActiveElements
-active_of_element (ActiveElement table offset) items =
-    Some (record { table = unwrap_or table 0; offset = offset; items = items_of_element items })
-active_of_element _ items = None
+  -- a table that is not named is the first
+  abbrev pub active_by : ElementKind → ElementItems → Option (ActiveItems T E)
+  active_by (ActiveElement table offset) items =
+      Some (record { table = unwrap_or table 0; offset = expression_by offset; items = items_by items })
+  active_by _ items = None
+
+  abbrev pub active_items_by : List Element → List (ActiveItems T E)
+  active_items_by elements = filter_map (λ e. active_by e.kind e.items) elements
 
 -- the active element segments, in order
 abbrev pub active_elements : List Element → List ActiveElements
-active_elements elements = filter_map (λ e. active_of_element e.kind e.items) elements
+active_elements elements = active_items_by (λ type. tt) (λ e. e) elements
 
 abbrev pub is_function_type : Option (Composite UnpackedIndex UnpackedIndex) → Bool
 is_function_type (Some (Func type)) = true

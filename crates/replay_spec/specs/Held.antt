@@ -10,7 +10,7 @@ use Rattle.wasm_spec.specs.declared.operators.Operator.TheVariants.{RefNull}
 use Rattle.wasm_spec.specs.Module.{Expression, Element, Module}
 use Rattle.rule_spec.specs.Lists.{Lists}
 use Rattle.replay_spec.specs.Data.{ActiveSegment, active_segments}
-use Rattle.replay_spec.specs.Elements.{Items, Functions, Expressions, ActiveElements, DefinedTable, active_elements, defined_tables}
+use Rattle.replay_spec.specs.Elements.{ActiveElements, DefinedTable, active_items_by, defined_tables}
 use Rattle.replay_spec.specs.Globals.{initialisers}
 
 abbrev pub any_null : Operator → Operator
@@ -27,16 +27,9 @@ held_segment s = record s { offset = any_nulls s.offset }
 abbrev pub held_segments : Module → List ActiveSegment
 held_segments m = map held_segment (active_segments m)
 
-abbrev pub held_items : Items → Items
-held_items (Functions indices) = Functions indices
-held_items (Expressions items) = Expressions (map any_nulls items)
-
-abbrev pub held_element : ActiveElements → ActiveElements
-held_element s = record s { offset = any_nulls s.offset; items = held_items s.items }
-
 -- the active element segments
 abbrev pub held_elements : List Element → List ActiveElements
-held_elements elements = map held_element (active_elements elements)
+held_elements elements = active_items_by (λ type. tt) any_nulls elements
 
 abbrev pub held_table : DefinedTable → DefinedTable
 held_table t = record t { initial = option_map any_nulls t.initial }

@@ -24,13 +24,13 @@ expression_cell (op ∷ []) = operator_cell op
 expression_cell (op ∷ next ∷ ops) = None
 
 -- items are functions, or expressions with such cells
-abbrev pub AreCells : Items → Type 0
+abbrev pub AreCells : Items (Unit {0}) Expression → Type 0
 AreCells (Functions indices) = Unit {0}
-AreCells (Expressions items) = All (λ e. IsSome (expression_cell e)) items
+AreCells (Expressions type items) = All (λ e. IsSome (expression_cell e)) items
 
-abbrev pub image_cells : Items → List (Option ℕ)
+abbrev pub image_cells : Items (Unit {0}) Expression → List (Option ℕ)
 image_cells (Functions indices) = map Some indices
-image_cells (Expressions items) = map (λ e. unwrap_or (expression_cell e) None) items
+image_cells (Expressions type items) = map (λ e. unwrap_or (expression_cell e) None) items
 
 -- ---- offsets that are known
 

@@ -17,7 +17,7 @@ abbrev pub functions_at : ℤ → List ℕ → ActiveElements
 functions_at offset indices = record { table = 0; offset = I32Const offset ∷ []; items = Functions indices }
 
 abbrev pub expressions_at : ℤ → List Expression → ActiveElements
-expressions_at offset items = record { table = 0; offset = I32Const offset ∷ []; items = Expressions items }
+expressions_at offset items = record { table = 0; offset = I32Const offset ∷ []; items = Expressions tt items }
 
 abbrev pub function : ℕ → Expression
 function index = RefFunc index ∷ []

@@ -2,12 +2,12 @@
 
 ghost use Rattle.std.specs.Prelude.{◌≡◌, ℕ, List, map, Some, IsSomeAnd};
 ghost use Rattle.wasm_spec.specs.declared.entities.GlobalType.{GlobalType};
-ghost use Rattle.wasm_spec.specs.Module.{Expression, Module};
+ghost use Rattle.wasm_spec.specs.Module.{Expression, Element, Module};
 ghost use Rattle.replay_spec.specs.Values.{Value, eval, const_value, offset_over};
 ghost use Rattle.replay_spec.specs.Data.{ActiveSegment, segments_phase};
-ghost use Rattle.replay_spec.specs.Elements.{ActiveElements, DefinedTable, elements_phase};
+ghost use Rattle.replay_spec.specs.Elements.{DefinedTable, elements_phase, active_elements};
 ghost use Rattle.replay_spec.specs.Globals.{values_after};
-ghost use Rattle.replay_spec.specs.Held.{any_nulls, held_segment, held_element, held_table};
+ghost use Rattle.replay_spec.specs.Held.{any_nulls, held_segment, held_elements, held_table};
 ghost use Rattle.replay_spec.specs.Classes.{IsOfClass, HaveClasses, field_count};
 ghost use Rattle.replay_spec.specs.Evaluated.{AreImported, all_globals, HaveValues};
 ghost use Rattle.rule_spec.specs.declared.classes.Class.{Class};
@@ -28,8 +28,8 @@ pub fn held_phase_laws()
         → values_after fields known (map any_nulls initialisers) ≡ values_after fields known initialisers }
     ensures data { (globals : List Value) (fields : ℕ → ℕ) (imported : List (List ℕ)) (defined : List ℕ) (active : List ActiveSegment)
         → segments_phase (offset_over globals fields) imported defined (map held_segment active) ≡ segments_phase (offset_over globals fields) imported defined active }
-    ensures elements { (globals : List Value) (fields : ℕ → ℕ) (imported : List (List Value)) (tables : List DefinedTable) (active : List ActiveElements)
-        → elements_phase globals fields imported (map held_table tables) (map held_element active) ≡ elements_phase globals fields imported tables active }
+    ensures elements { (globals : List Value) (fields : ℕ → ℕ) (imported : List (List Value)) (tables : List DefinedTable) (elements : List Element)
+        → elements_phase globals fields imported (map held_table tables) (held_elements elements) ≡ elements_phase globals fields imported tables (active_elements elements) }
 {}
 
 /// A constant value is the value of the expression, over any globals and types.
