@@ -333,6 +333,14 @@ typedef struct {
     uint64_t max_image;
 } bobbinazure_options;
 
+/* Each flag of the options, and the program's word for it. */
+#define BOBBINAZURE_FLAGS(EACH) \
+    EACH(cow, "--cow") \
+    EACH(lazy_tables, "--lazy-tables") \
+    EACH(branch_hints, "--branch-hints") \
+    EACH(native_debug, "--native-debug") \
+    EACH(guest_debug, "--guest-debug")
+
 /* How many entities of each kind there are, imported ones among them, and how many are imported. */
 typedef struct {
     uint64_t functions;          /* All functions. */

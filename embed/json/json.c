@@ -497,21 +497,23 @@ static int read_number(const char *at, uint64_t *result) {
     return 1;
 }
 
-/* Sets an option by its word. Gives a number of its own for each option, as a bit; none where the
- * word is wrong. */
+/* A number for each option. */
+#define NUMBER(flag, word) OPTION_##flag,
+enum { NO_OPTION, OPTION_pointer, OPTION_collector, OPTION_page_size, OPTION_max_image, BOBBINAZURE_FLAGS(NUMBER) };
+#undef NUMBER
+
+/* Sets an option by its word. Gives its number; that of no option where the word is wrong. */
 static int set_option(bobbinazure_options *options, const char *option) {
-    if (!strcmp(option, "--cow")) return options->cow = 1, 1;
-    if (!strcmp(option, "--lazy-tables")) return options->lazy_tables = 1, 2;
-    if (!strcmp(option, "--branch-hints")) return options->branch_hints = 1, 4;
-    if (!strcmp(option, "--native-debug")) return options->native_debug = 1, 8;
-    if (!strcmp(option, "--guest-debug")) return options->guest_debug = 1, 16;
-    if (!strcmp(option, "--ptr=4")) return options->pointer = 4, 32;
-    if (!strcmp(option, "--ptr=8")) return options->pointer = 8, 32;
-    if (!strcmp(option, "--gc=drc")) return options->collector = 0, 64;
-    if (!strcmp(option, "--gc=null")) return options->collector = 1, 64;
-    if (!strncmp(option, "--page=", 7)) return read_number(option + 7, &options->page_size) ? 128 : 0;
-    if (!strncmp(option, "--max-image=", 12)) return read_number(option + 12, &options->max_image) ? 256 : 0;
-    return 0;
+#define SET(flag, word) if (!strcmp(option, word)) return options->flag = 1, OPTION_##flag;
+    BOBBINAZURE_FLAGS(SET)
+#undef SET
+    if (!strcmp(option, "--ptr=4")) return options->pointer = 4, OPTION_pointer;
+    if (!strcmp(option, "--ptr=8")) return options->pointer = 8, OPTION_pointer;
+    if (!strcmp(option, "--gc=drc")) return options->collector = 0, OPTION_collector;
+    if (!strcmp(option, "--gc=null")) return options->collector = 1, OPTION_collector;
+    if (!strncmp(option, "--page=", 7)) return read_number(option + 7, &options->page_size) ? OPTION_page_size : NO_OPTION;
+    if (!strncmp(option, "--max-image=", 12)) return read_number(option + 12, &options->max_image) ? OPTION_max_image : NO_OPTION;
+    return NO_OPTION;
 }
 
 /* Reads standard input to its end, or to the most bytes. */
@@ -535,8 +537,8 @@ int main(int argc, char **argv) {
     if (argc < 2 || (!locates && strcmp(argv[1], "plan"))) return BOBBINAZURE_WRONG_OPTIONS;
     for (int i = 2; i < argc; i++) {
         int option = set_option(&options, argv[i]);
-        if (!option || (seen & option)) return BOBBINAZURE_WRONG_OPTIONS;
-        seen |= option;
+        if (!option || (seen >> option & 1)) return BOBBINAZURE_WRONG_OPTIONS;
+        seen |= 1 << option;
     }
     (void)print_plan; /* the text of the whole plan, of which this prints parts */
     uint8_t *module;

@@ -2,7 +2,7 @@
 
 const EXAMPLES = { linked: "a small linked program", overlap: "two segments that overlap", planner: "the planner’s own module" };
 // The option words of the program, by the fields of the C interface's options.
-const SWITCHES = { cow: "--cow", lazy_tables: "--lazy-tables", branch_hints: "--branch-hints", native_debug: "--native-debug", guest_debug: "--guest-debug" };
+const SWITCHES = Object.fromEntries(Array.from(byId("options").querySelectorAll("input[type=checkbox]"), ({ name }) => [name, `--${name.replaceAll("_", "-")}`]));
 const CHOICES = { pointer: ["--ptr=", "8"], collector: ["--gc=", "0"], page_size: ["--page=", "4096"], max_image: ["--max-image=", "1048576"] };
 const COLLECTORS = ["drc", "null"];
 

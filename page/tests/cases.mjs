@@ -4,10 +4,10 @@ import { readFileSync, readdirSync } from "node:fs";
 import { join } from "node:path";
 
 const HEADER = [0x00, 0x61, 0x73, 0x6d, 0x01, 0x00, 0x00, 0x00];
-const REGIONS = [
-  "runtime data lengths", "runtime data base pointers", "startup funcref", "module functions", "defined tags", "defined globals", "defined tables", "imported tags",
-  "imported globals", "imported tables", "imported functions", "owned memories", "defined memories", "imported memories", "static vmctx data",
-];
+const ROOT = join(import.meta.dirname, "..", "..");
+const [, listed] = readFileSync(join(ROOT, "crates/plan_cases/src/expected.rt"), "utf8").match(/const REGIONS: .*? = \[(.*?)\];/s);
+const REGIONS = Array.from(listed.matchAll(/"(.*?)"/g), ([, name]) => name);
+const FLAGS = Array.from(readFileSync(join(ROOT, "embed/include/bobbinazure.h"), "utf8").matchAll(/EACH\((\w+), "(--[a-z-]+)"\)/g));
 // Lines about what is read and written, and not about a module.
 const DEVICES = ["failing-reads", "failing-writes", "room"];
 
@@ -107,9 +107,8 @@ export function spotOf({ at, bytes }) {
 // The options of the C interface for words of the command.
 export function optionsOf(words) {
   const given = Object.fromEntries(words.map(word => word.replace(/^--/, "").split("=")));
-  const isOn = name => (name in given ? 1 : 0);
   return {
-    cow: isOn("cow"), lazy_tables: isOn("lazy-tables"), branch_hints: isOn("branch-hints"), native_debug: isOn("native-debug"), guest_debug: isOn("guest-debug"),
+    ...Object.fromEntries(FLAGS.map(([, name, word]) => [name, words.includes(word) ? 1 : 0])),
     pointer: Number(given.ptr ?? 8), collector: given.gc === "null" ? 1 : 0, page_size: BigInt(given.page ?? 4096), max_image: BigInt(given["max-image"] ?? 1048576),
   };
 }

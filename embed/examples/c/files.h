@@ -6,12 +6,10 @@
 #include <stdio.h>
 
 static inline int set_option(bobbinazure_options *options, const char *word) {
-    if (!strcmp(word, "--cow")) options->cow = 1;
-    else if (!strcmp(word, "--lazy-tables")) options->lazy_tables = 1;
-    else if (!strcmp(word, "--branch-hints")) options->branch_hints = 1;
-    else if (!strcmp(word, "--native-debug")) options->native_debug = 1;
-    else if (!strcmp(word, "--guest-debug")) options->guest_debug = 1;
-    else if (!strncmp(word, "--ptr=", 6)) options->pointer = (uint8_t)atoi(word + 6);
+#define SET(flag, spelled) if (!strcmp(word, spelled)) return options->flag = 1;
+    BOBBINAZURE_FLAGS(SET)
+#undef SET
+    if (!strncmp(word, "--ptr=", 6)) options->pointer = (uint8_t)atoi(word + 6);
     else if (!strcmp(word, "--gc=drc")) options->collector = 0;
     else if (!strcmp(word, "--gc=null")) options->collector = 1;
     else if (!strncmp(word, "--page=", 7)) options->page_size = strtoull(word + 7, 0, 10);

@@ -1,5 +1,5 @@
-//! plan FILE.wasm [--cow] [--lazy-tables] : prints the plan, and on standard error what an embedder
-//! reads of its tables.
+//! plan FILE.wasm [FLAG ..] : prints the plan, with the flags of the program such as `--cow`, and on
+//! standard error what an embedder reads of its tables.
 
 use bobbinazure::{Error, Options, plan_and_text};
 use std::process::ExitCode;
@@ -9,11 +9,8 @@ fn main() -> ExitCode {
     let Some(file) = words.next() else { return ExitCode::from(2) };
     let mut options = Options::default();
     for word in words {
-        match word.as_str() {
-            "--cow" => options.cow = true,
-            "--lazy-tables" => options.lazy_tables = true,
-            _ => return ExitCode::from(2),
-        }
+        let Some((_, flag)) = Options::FLAGS.iter().find(|(known, _)| *known == word) else { return ExitCode::from(2) };
+        *flag(&mut options) = true;
     }
     let Ok(bytes) = std::fs::read(file) else { return ExitCode::from(3) };
     match plan_and_text(&bytes, &options) {

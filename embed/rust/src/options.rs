@@ -7,15 +7,10 @@ use crate::rows::Options;
 impl Default for Options {
     fn default() -> Self {
         Options {
-            cow: false,
-            lazy_tables: false,
-            branch_hints: false,
-            native_debug: false,
-            guest_debug: false,
             pointer: 8,
-            collector: 0,
             page_size: 4096,
             max_image: 1 << 20,
+            ..Options::ZERO
         }
     }
 }

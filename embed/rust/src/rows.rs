@@ -31,6 +31,30 @@ pub struct Options {
     pub max_image: u64,
 }
 
+impl Options {
+    /// Each field is zero.
+    pub(crate) const ZERO: Options = Options {
+        cow: false,
+        lazy_tables: false,
+        branch_hints: false,
+        native_debug: false,
+        guest_debug: false,
+        pointer: 0,
+        collector: 0,
+        page_size: 0,
+        max_image: 0,
+    };
+
+    /// Each flag, by the program's word for it.
+    pub const FLAGS: [(&'static str, fn(&mut Options) -> &mut bool); 5] = [
+        ("--cow", |options| &mut options.cow),
+        ("--lazy-tables", |options| &mut options.lazy_tables),
+        ("--branch-hints", |options| &mut options.branch_hints),
+        ("--native-debug", |options| &mut options.native_debug),
+        ("--guest-debug", |options| &mut options.guest_debug),
+    ];
+}
+
 /// How many entities of each kind there are, imported ones among them, and how many are
 /// imported.
 #[repr(C)]

@@ -13,8 +13,15 @@ fn all_options() -> [Options; 4] {
         plain,
         Options { cow: true, ..plain },
         images,
-        Options { branch_hints: true, native_debug: true, guest_debug: true, pointer: 4, collector: 1, ..images },
+        with_all_flags(Options { pointer: 4, collector: 1, ..plain }),
     ]
+}
+
+fn with_all_flags(mut options: Options) -> Options {
+    for (_, flag) in Options::FLAGS {
+        *flag(&mut options) = true;
+    }
+    options
 }
 
 /// A name, with what is not ASCII as its bytes.
