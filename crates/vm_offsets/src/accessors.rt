@@ -9,7 +9,7 @@ ghost use Rattle.vm_offsets.specs.Layouts.{fields_of, pointer_of, entries_of, en
 
 use crate::arrays::ArrayOffsets;
 use crate::offsets::VMOffsets;
-use crate::table::Entry;
+use crate::table::{ENTRIES, Entry};
 use vm_structs::PtrSize;
 use wasm_index::{
     DefinedGlobalIndex, DefinedMemoryIndex, DefinedTableIndex, DefinedTagIndex, FuncIndex,
@@ -49,7 +49,7 @@ pub(crate) const RUNTIME_DATA_LENGTHS: usize = 13;
 impl<P: PtrSize> VMOffsets<P> {
     // The entry at a position in the table.
     pub(crate) fn entry(&self, place: usize) -> Entry
-        requires { place < 14 }
+        requires { place < ENTRIES }
         ensures { option_map placed_extent (slice_get (entries_of self.now) place) ≡ Some (kept_extent result) }
     {
         self.entries[place]
@@ -57,7 +57,7 @@ impl<P: PtrSize> VMOffsets<P> {
 
     // The array of the entry at a position in the table.
     fn array<I>(&self, place: usize) -> ArrayOffsets<I>
-        requires { place < 14 }
+        requires { place < ENTRIES }
         ensures { option_map entry_array (slice_get (entries_of self.now) place) ≡ Some result }
     {
         let entry = self.entry(place);

@@ -14,6 +14,7 @@ use crate::accessors::{
 };
 use crate::offsets::VMOffsets;
 use crate::part::ContextPart;
+use crate::table::ENTRIES;
 use std::marker::Model;
 use vm_structs::PtrSize;
 
@@ -21,7 +22,7 @@ use vm_structs::PtrSize;
 /// as the list of those that remain.
 #[derive(Drop)]
 pub struct RegionSizes {
-    parts: [ContextPart; 15],
+    parts: [ContextPart; ENTRIES + 1],
     next: usize,
     end: u32,
 }
@@ -57,7 +58,7 @@ impl Iterator for RegionSizes {
 impl<P: PtrSize> VMOffsets<P> {
     // The part that begins with the entry at a position.
     fn part(&self, description: &'static str, place: usize) -> ContextPart
-        requires { place < 14 }
+        requires { place < ENTRIES }
         ensures description { result.description.now ≡ description.now }
         ensures begin { option_map (λ placed. placed.begin) (slice_get (entries_of self.now) place) ≡ Some result.begin }
     {
@@ -69,7 +70,7 @@ impl<P: PtrSize> VMOffsets<P> {
 
     // The parts of the context, the last one first.
     #[tactic(auto, unfolding(crate::specs::Context::context_entries, crate::specs::Context::context_table))]
-    fn parts(&self) -> [ContextPart; 15]
+    fn parts(&self) -> [ContextPart; ENTRIES + 1]
         ensures { map part_label result ≡ map entry_label (reverse (static_part ∷ entries_of self.now)) }
     {
         [

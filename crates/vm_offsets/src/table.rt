@@ -13,6 +13,9 @@ use vm_structs::offsets::{
     VMMemoryImport, VMTableDefinition, VMTableImport, VMTagDefinition, VMTagImport,
 };
 
+/// The number of a context's entries.
+pub(crate) const ENTRIES: usize = 14;
+
 /// An entry with its position.
 #[derive(Clone, Copy, Debug)]
 pub struct Entry {
@@ -23,7 +26,7 @@ pub struct Entry {
 
 // The table, at a size of pointers and counts.
 #[tactic(auto, unfolding(crate::specs::Context::context_table))]
-fn table<P>(pointer: u8, fields: &VMOffsetsFields<P>) -> [Row; 14]
+fn table<P>(pointer: u8, fields: &VMOffsetsFields<P>) -> [Row; ENTRIES]
     requires { IsPointerSize pointer }
     ensures { rows_of result ≡ without_texts (context_table pointer fields.now) }
 {
@@ -57,7 +60,7 @@ fn table<P>(pointer: u8, fields: &VMOffsetsFields<P>) -> [Row; 14]
 }
 
 // The entries of a table that begins at a byte, and where it ends.
-fn place(begin: u8, rows: &[Row; 14]) -> Result<([Entry; 14], u32), OffsetOverflow>
+fn place(begin: u8, rows: &[Row; ENTRIES]) -> Result<([Entry; ENTRIES], u32), OffsetOverflow>
     ensures entries { IfOk result (λ placed. KeepsEntries placed.0 (placed_from begin (rows_of rows.now))) }
     ensures size { IfOk result (λ placed. placed.1 ≡ end_from begin (rows_of rows.now)) }
     ensures fits { IfOk result (λ _. end_from begin (rows_of rows.now) ≤ u32.MAX) }
@@ -67,7 +70,7 @@ fn place(begin: u8, rows: &[Row; 14]) -> Result<([Entry; 14], u32), OffsetOverfl
         begin: 0,
         stride: 0,
         count: 0,
-    }; 14];
+    }; ENTRIES];
     let mut end = u64::from(begin);
     for (place, row) in rows.iter().enumerate() {
         let begin = row.begin(end);
@@ -88,7 +91,7 @@ fn place(begin: u8, rows: &[Row; 14]) -> Result<([Entry; 14], u32), OffsetOverfl
 pub(crate) fn lay_out<P>(
     pointer: u8,
     fields: &VMOffsetsFields<P>,
-) -> Result<([Entry; 14], u32), OffsetOverflow>
+) -> Result<([Entry; ENTRIES], u32), OffsetOverflow>
     requires { IsPointerSize pointer }
     ensures entries { IfOk result (λ placed. KeepsEntries placed.0 (context_entries pointer fields.now)) }
     ensures size { IfOk result (λ placed. placed.1 ≡ context_size pointer fields.now) }
