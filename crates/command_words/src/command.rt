@@ -24,3 +24,23 @@ pub struct Command {
     pub ptr: u8,
     pub collector: Collector,
 }
+
+impl Command {
+    /// `plan` without options.
+    pub const PLAIN: Command = Command {
+        generate: None,
+        tunables: Tunables {
+            debug_native: false,
+            debug_guest: false,
+            parse_wasm_debuginfo: false,
+            branch_hinting: false,
+            memory_init_cow: false,
+            table_lazy_init: false,
+            signals_based_traps: false,
+        },
+        page_size: 4096,
+        max_image: 1_048_576,
+        ptr: 8,
+        collector: Collector::Drc,
+    };
+}

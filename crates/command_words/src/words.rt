@@ -3,10 +3,9 @@
 ghost use Rattle.std.specs.Prelude.{◌≡◌, ℕ, map, string_bytes, decimal, IfSome, Some};
 ghost use Rattle.command_words.specs.Commands.{Names, Chooses, IsMade, IsUsable, plain_command};
 
-use crate::command::{Collector, Command};
+use crate::command::Command;
 use crate::numbers::read_number;
 use crate::settings::{KINDS, kind_of, read_setting, with_setting};
-use wasm_types::Tunables;
 
 /// The command that the words name; `None` where they name none. The words are those after the
 /// program's name.
@@ -63,18 +62,6 @@ fn plain(generate: Option<u32>) -> Command
 {
     Command {
         generate,
-        tunables: Tunables {
-            debug_native: false,
-            debug_guest: false,
-            parse_wasm_debuginfo: false,
-            branch_hinting: false,
-            memory_init_cow: false,
-            table_lazy_init: false,
-            signals_based_traps: false,
-        },
-        page_size: 4096,
-        max_image: 1_048_576,
-        ptr: 8,
-        collector: Collector::Drc,
+        ..Command::PLAIN
     }
 }
