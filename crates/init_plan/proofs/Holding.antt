@@ -13,7 +13,7 @@ use Rattle.replay_spec.specs.Plan.{MemoryPlan, AgreesOver, Agrees}
 use Rattle.replay_spec.specs.Images.{ImageMemory, image_memory_of}
 use Rattle.replay_spec.specs.Tables.{TablePlan, AgreesOnTables}
 use Rattle.replay_spec.specs.Globals.{AgreesOnGlobals, initialisers}
-use Rattle.replay_spec.specs.Elements.{defined_tables, active_elements}
+use Rattle.replay_spec.specs.Elements.{defined_tables}
 use Rattle.replay_spec.specs.Held.{held_segments, held_tables, held_elements, held_initialisers}
 use Rattle.replay_spec.proofs.GlobalsKnown.{globals-agree}
 use Rattle.replay_spec.proofs.GlobalsTyped.{reads-earlier}
@@ -65,7 +65,7 @@ elements_agree m t plan holds h =
     let l : Lists = lists_of_module m in
     let held : AgreesOnTables (length (imported_of table_import m)) (held_tables l) (held_elements l.elements) plan =
     rw (← holds.imports, ← holds.tables, ← holds.active) h in
-    agrees_on_tables-held (length (imported_of table_import m)) (defined_tables l) (active_elements l.elements) plan held
+    agrees_on_tables-held (length (imported_of table_import m)) (defined_tables l) l.elements plan held
 
 pub globals_agree : (m : Module) (t : ModuleTranslation) → HoldsGlobals m t → (let l = lists_of_module m in AreGlobalsTyped l l.imported_globals l.globals)
     → AgreesOnGlobals (lists_of_module m).imported_globals (initialisers (lists_of_module m)) (plan_of_globals t)

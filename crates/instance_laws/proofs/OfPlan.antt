@@ -9,7 +9,7 @@ use Rattle.wasm_index.specs.Index.{number_of}
 use Rattle.replay_spec.specs.Phases.{last_item}
 use Rattle.replay_spec.specs.Values.{Value, offset_over}
 use Rattle.replay_spec.specs.Data.{piece_of, active_segments}
-use Rattle.replay_spec.specs.Elements.{elements_piece, defined_tables, active_elements}
+use Rattle.replay_spec.specs.Elements.{elements_piece, defined_tables}
 use Rattle.replay_spec.specs.Globals.{planned_globals}
 use Rattle.replay_spec.specs.Held.{held_segments, held_tables, held_elements}
 use Rattle.replay_spec.specs.Images.{ImageMemory, image_memory_of, IsMemoryPlan}
@@ -92,7 +92,7 @@ module _ (o : Options) (bytes : List ℕ) (plan : Plan) (is : IsPlanned o bytes 
       globals = g;
       table_sizes = minimums-held g f (defined_tables l) i;
       cells = λ k place. first-held g f (defined_tables l) k i;
-      elements = element_pieces-held g f (active_elements l.elements) i;
+      elements = element_pieces-held g f l.elements i;
       memory_sizes = sizes-module (defined_memories m) i;
       bytes = λ k place. 0;
       segments = pieces-held g f (active_segments m) i;

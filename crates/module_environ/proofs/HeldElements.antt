@@ -17,9 +17,10 @@ use Rattle.wasm_types.specs.declared.value.WasmRefType.{WasmRefType}
 use Rattle.wasm_module.specs.declared.table_initialization.TableSegment.{TableSegment}
 use Rattle.wasm_module.specs.declared.table_initialization.TableSegmentElements.{TableSegmentElements}
 use Rattle.wasm_module.specs.Elements.{element_type, element_count}
+use Rattle.replay_spec.specs.Elements.{items_by, active_by}
 use Rattle.replay_spec.specs.Startup.{is_passive, passive_elements}
 use Rattle.module_environ.specs.declared.elements.ElementSegments.{ElementSegments}
-use Rattle.module_environ.specs.Initialisers.{active_in, active_elements, view_segment, passive_items, items_in, view_items, passive_numbers}
+use Rattle.module_environ.specs.Initialisers.{type_in, active_items, passive_items, view_items, view_segment, passive_numbers}
 use Rattle.module_environ.specs.Segments.{HoldsElements, HasRoom}
 
 -- ---- numbers among the passive ones
@@ -65,7 +66,7 @@ view_kind items = (element_type items, element_count items)
 counted : (look : LookUp) (before : List Element) (s : ElementSegments) → HoldsElements look before s → length s.passive
     ≡ length (passive_elements before)
 counted look before s holds =
-    sym (length-map s.passive view_items) ∙ ap length holds.passive ∙ length-map (passive_elements before) (λ (x : Element). items_in look x.items)
+    sym (length-map s.passive view_items) ∙ ap length holds.passive ∙ length-map (passive_elements before) (λ (x : Element). items_by (type_in look) (const_ops_of look) x.items)
 
 module _ (look : LookUp) (before : List Element) (e : Element) (old : ElementSegments) (holds : HoldsElements look before old) where
   abbrev next : ℕ
@@ -75,15 +76,15 @@ module _ (look : LookUp) (before : List Element) (e : Element) (old : ElementSeg
   earlier = passive_numbers 0 before
 
   holds-more : (new : ElementSegments)
-      → map view_segment new.active.items ≡ map view_segment old.active.items ++ active_elements look (e ∷ [])
+      → map view_segment new.active.items ≡ map view_segment old.active.items ++ active_items look (e ∷ [])
       → map view_items new.passive ≡ map view_items old.passive ++ passive_items look (e ∷ [])
       → new.kinds ≡ map view_kind new.passive
       → ((i : ℕ) → option_map number_of (value_at new.numbers i) ≡ number_in (earlier ++ passive_numbers next (e ∷ [])) i)
       → new.count ≡ old.count + 1 → HoldsElements look (before ++ e ∷ []) new
   holds-more new active passive kinds numbers count = record {
-    active = cc (filter_map-append (λ (x : Element). active_in look x.kind x.items) before (e ∷ []));
+    active = cc (filter_map-append (λ (x : Element). active_by (type_in look) (const_ops_of look) x.kind x.items) before (e ∷ []));
     passive = cc (
-      map-append (λ (x : Element). items_in look x.items) (passive_elements before) (passive_elements (e ∷ [])),
+      map-append (λ (x : Element). items_by (type_in look) (const_ops_of look) x.items) (passive_elements before) (passive_elements (e ∷ [])),
       filter-append (λ (x : Element). is_passive x.kind) before (e ∷ []),
     );
     kinds = kinds;
@@ -93,7 +94,7 @@ module _ (look : LookUp) (before : List Element) (e : Element) (old : ElementSeg
 
   -- one that is not passive keeps all but the active ones
   holds-other : (new : ElementSegments) → is_passive e.kind ≡ false
-      → map view_segment new.active.items ≡ map view_segment old.active.items ++ active_elements look (e ∷ [])
+      → map view_segment new.active.items ≡ map view_segment old.active.items ++ active_items look (e ∷ [])
       → new.passive ≡ old.passive → new.kinds ≡ old.kinds → new.numbers ≡ old.numbers → new.count ≡ old.count + 1
       → HoldsElements look (before ++ e ∷ []) new
   holds-other new isnt active passive kinds numbers count =
@@ -104,12 +105,12 @@ module _ (look : LookUp) (before : List Element) (e : Element) (old : ElementSeg
       count
 
   pub holds-active : (table : Option ℕ) (offset : Expression) (s : TableSegment) (new : ElementSegments) → e.kind ≡ ActiveElement table offset
-      → number_of s.table_index ≡ unwrap_or table 0 → s.offset ≡ const_ops_of look offset → view_items s.elements ≡ items_in look e.items
+      → number_of s.table_index ≡ unwrap_or table 0 → s.offset ≡ const_ops_of look offset → view_items s.elements ≡ items_by (type_in look) (const_ops_of look) e.items
       → new.active.items ≡ old.active.items ++ s ∷ []
       → new.passive ≡ old.passive → new.kinds ≡ old.kinds → new.numbers ≡ old.numbers → new.count ≡ old.count + 1
       → HoldsElements look (before ++ e ∷ []) new
   holds-active table offset s new is at place items active =
-      let seen : view_segment s ≡ record { table = unwrap_or table 0; offset = const_ops_of look offset; items = items_in look e.items } =
+      let seen : view_segment s ≡ record { table = unwrap_or table 0; offset = const_ops_of look offset; items = items_by (type_in look) (const_ops_of look) e.items } =
       λ i. record { table = at i; offset = place i; items = items i } in
       holds-other new (ap is_passive is) (rw (active, is) (cc (map_push view_segment old.active.items s, seen)))
 
@@ -134,7 +135,7 @@ module _ (look : LookUp) (before : List Element) (e : Element) (old : ElementSeg
       ]
 
   pub holds-passive : (x : TableSegmentElements) (n : ℕ) (new : ElementSegments) → e.kind ≡ PassiveElement
-      → view_items x ≡ items_in look e.items → n ≡ old.count
+      → view_items x ≡ items_by (type_in look) (const_ops_of look) e.items → n ≡ old.count
       → new.active.items ≡ old.active.items → new.passive ≡ old.passive ++ x ∷ [] → new.kinds ≡ old.kinds ++ view_kind x ∷ []
       → new.numbers ≡ with_value old.numbers n (Some (index_of (length old.passive))) → new.count ≡ old.count + 1
       → HoldsElements look (before ++ e ∷ []) new

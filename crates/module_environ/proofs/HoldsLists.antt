@@ -15,9 +15,9 @@ use Rattle.wasm_spec.specs.declared.types.AbstractHeapType.TheVariants as abstra
 use Rattle.wasm_spec.specs.declared.types.UnpackedIndex.{UnpackedIndex}
 use Rattle.wasm_spec.specs.declared.types.UnpackedIndex.TheVariants as index
 use Rattle.wasm_spec.specs.TypeData as types
-use Rattle.wasm_spec.specs.TypeData.{Heap, Group, Composite, Func, Array, Struct, Cont, Exn, heap_of, map_heap, map_composite}
+use Rattle.wasm_spec.specs.TypeData.{Reference, Heap, Group, Composite, Func, Array, Struct, Cont, Exn, heap_of, map_heap, map_composite}
 use Rattle.wasm_spec.specs.Module as plain
-use Rattle.wasm_spec.specs.Module.{Expression, TableDef, GlobalDef, ElementKind, PassiveElement, DeclaredElement, ActiveElement, ElementItems, Functions, Expressions, Element, table_import, imported_of}
+use Rattle.wasm_spec.specs.Module.{Expression, TableDef, GlobalDef, ElementKind, PassiveElement, DeclaredElement, ActiveElement, ElementItems, Element, table_import, imported_of}
 use Rattle.rule_spec.specs.Lists.{Declared, declared_from, declared_groups, lists_of_module}
 use Rattle.rule_spec.specs.TypeRules.{IsBelow, HeapIsBelow}
 use Rattle.rule_spec.specs.References.{TableRefersIn, AllReferIn}
@@ -42,17 +42,16 @@ use Rattle.wasm_module.specs.declared.table_initialization.TableSegment.{TableSe
 use Rattle.wasm_module.specs.declared.table_initialization.TableSegmentElements.{TableSegmentElements}
 use Rattle.wasm_module.specs.declared.table_initialization.TableSegmentElements.TheVariants as elements
 use Rattle.table_images.specs.Views.{is_func, items_of, active_elements_of, initial_of, defined_table_of, defined_tables_of}
-use Rattle.replay_spec.specs.Elements.{ActiveElements, is_function_type, has_functions_on_top, defined_table, items_of_element, active_of_element}
-use Rattle.replay_spec.specs.Elements as replay
+use Rattle.replay_spec.specs.Elements.{Items, Functions, Expressions, ActiveItems, ActiveElements, items_by, active_by, is_function_type, has_functions_on_top, defined_table}
 use Rattle.replay_spec.specs.Globals.{simple_of, kept_of}
-use Rattle.replay_spec.specs.Held.{any_nulls, held_items, held_element, held_elements, held_table}
+use Rattle.replay_spec.specs.Held.{any_nulls, held_elements, held_table}
 use Rattle.replay_spec.proofs.AnyNull.{const-any}
 use Rattle.init_plan.specs.declared.translation.ModuleTranslation.{ModuleTranslation}
 use Rattle.init_plan.specs.Tables.{own_tables}
 use Rattle.init_plan.specs.Held.{HoldsMemories, HoldsTables, HoldsGlobals}
 use Rattle.module_environ.proofs.HeldExpressions.{seen-is}
 use Rattle.module_environ.specs.Types.{look_up_in}
-use Rattle.module_environ.specs.Initialisers.{view_initialiser, first_values, view_first_value, Items, FunctionItems, ExpressionItems, items_in, view_items, ActiveItems, active_in, active_elements, view_segment}
+use Rattle.module_environ.specs.Initialisers.{view_initialiser, first_values, view_first_value, type_in, active_items, view_items, view_segment}
 use Rattle.module_environ.specs.Translation.{HasEntities, CountsImports, HasGlobals, HasElements, HasData}
 
 -- ---- lists
@@ -101,38 +100,38 @@ holds_memories m t entities counts has = record { imports = counts.memories; mem
 -- ---- active element segments
 
 -- their items without what the plan of tables does not hold
-plain_items : Items → replay.Items
-plain_items (FunctionItems functions) = replay.Functions functions
-plain_items (ExpressionItems type expressions) = replay.Expressions (map expression_of expressions)
+plain_items : Items (Reference Name) (List ConstOp) → Items (Unit {0}) Expression
+plain_items (Functions functions) = Functions functions
+plain_items (Expressions type expressions) = Expressions tt (map expression_of expressions)
 
-plain_active : ActiveItems → ActiveElements
+plain_active : ActiveItems (Reference Name) (List ConstOp) → ActiveElements
 plain_active a = record { table = a.table; offset = expression_of a.offset; items = plain_items a.items }
 
 view_plain : (s : TableSegment) → active_elements_of s ≡ plain_active (view_segment s)
 unfolding plain_items plain_active
 view_plain s =
-    ap (λ (items : replay.Items). record { table = (view_segment s).table; offset = expression_of s.offset; items = items }) (by s.elements) where
+    ap (λ (items : Items (Unit {0}) Expression). record { table = (view_segment s).table; offset = expression_of s.offset; items = items }) (by s.elements) where
       by : (x : TableSegmentElements) → items_of x ≡ plain_items (view_items x)
       by (elements.Functions functions) = refl
       by (elements.Expressions ty expressions) = refl
 
-items_held : (look : LookUp) (items : ElementItems) → plain_items (items_in look items) ≡ held_items (items_of_element items)
+items_held : (look : LookUp) (items : ElementItems) → plain_items (items_by (type_in look) (const_ops_of look) items) ≡ items_by (λ type. tt) any_nulls items
 unfolding plain_items
-items_held look (Functions indices) = refl
-items_held look (Expressions type items) =
-    ap replay.Expressions (map-map expression_of (const_ops_of look) items ∙ (λ i. map (λ e. seen-is look e i) items))
+items_held look (plain.Functions indices) = refl
+items_held look (plain.Expressions type items) =
+    ap (Expressions tt) (map-map expression_of (const_ops_of look) items ∙ (λ i. map (λ e. seen-is look e i) items))
 
-active_held : (look : LookUp) (kind : ElementKind) (items : ElementItems) → option_map plain_active (active_in look kind items) ≡ option_map held_element (active_of_element kind items)
+active_held : (look : LookUp) (kind : ElementKind) (items : ElementItems)
+    → option_map plain_active (active_by (type_in look) (const_ops_of look) kind items) ≡ active_by (λ type. tt) any_nulls kind items
 unfolding plain_active
 active_held look (ActiveElement table offset) items =
     λ i. Some (record { table = unwrap_or table 0; offset = seen-is look offset i; items = items_held look items i })
 active_held look _ items = refl
 
-elements_held : (look : LookUp) (es : List Element) → map plain_active (active_elements look es) ≡ held_elements es
+elements_held : (look : LookUp) (es : List Element) → map plain_active (active_items look es) ≡ held_elements es
 elements_held look es =
-    map_gathered plain_active (λ (e : Element). active_in look e.kind e.items) es
+    map_gathered plain_active (λ (e : Element). active_by (type_in look) (const_ops_of look) e.kind e.items) es
     ∙ (λ i. filter_map (λ (e : Element). active_held look e.kind e.items i) es)
-    ∙ sym (map_gathered held_element (λ (e : Element). active_of_element e.kind e.items) es)
 
 -- ---- the kinds of declared types
 

@@ -12,7 +12,8 @@ use Rattle.wasm_spec.specs.declared.entities.GlobalType.{GlobalType}
 use Rattle.wasm_spec.specs.declared.operators.Operator.{Operator}
 use Rattle.wasm_spec.specs.declared.operators.Operator.TheVariants as op
 use Rattle.wasm_spec.specs.Module as plain
-use Rattle.wasm_spec.specs.Module.{Expression, ElementItems, Functions, Expressions, ElementKind, PassiveElement, DeclaredElement, ActiveElement, Element, TableDef, Module, HasFewEntries}
+use Rattle.wasm_spec.specs.Module.{Expression, ElementItems, ElementKind, PassiveElement, DeclaredElement, ActiveElement, Element, TableDef, Module, HasFewEntries}
+use Rattle.wasm_spec.specs.TypeData.{Reference}
 use Rattle.rule_spec.specs.declared.rules.Rule.TheVariants.{L6, L9}
 use Rattle.rule_spec.specs.declared.classes.Class.{Class}
 use Rattle.rule_spec.specs.declared.classes.Class.TheVariants as class
@@ -26,6 +27,7 @@ use Rattle.wasm_index.specs.declared.index.Index.{Index}
 use Rattle.wasm_index.specs.declared.spaces.FuncSpace.{FuncSpace}
 use Rattle.wasm_types.specs.declared.table.Table.{Table}
 use Rattle.wasm_types.specs.EntityViews.{table_of}
+use Rattle.wasm_types.specs.ValueViews.{Name}
 use Rattle.wasm_convert.specs.Conversion.{LookUp}
 use Rattle.wasm_convert.specs.Operators.{conversion}
 use Rattle.wasm_convert.specs.Constants.{const_ops_of, expression_of}
@@ -35,14 +37,14 @@ use Rattle.wasm_module.specs.declared.table_initialization.TableSegment.{TableSe
 use Rattle.wasm_module.specs.declared.table_initialization.TableSegmentElements.{TableSegmentElements}
 use Rattle.wasm_module.specs.declared.table_initialization.TableSegmentElements.TheVariants as elements
 use Rattle.replay_spec.specs.Held.{any_null}
-use Rattle.replay_spec.specs.Elements.{ActiveElements, DefinedTable}
+use Rattle.replay_spec.specs.Elements.{Items, Functions, Expressions, ActiveItems, ActiveElements, DefinedTable, items_by, active_by}
 use Rattle.replay_spec.specs.Tables.{image_cells, initial_function, expression_cell}
 use Rattle.table_images.specs.Views.{active_elements_of, initial_of, items_of, defined_tables_of, image_of}
 use Rattle.table_images.specs.Steps.{images_of}
 use Rattle.init_plan.specs.declared.translation.ModuleTranslation.{ModuleTranslation}
 use Rattle.init_plan.specs.Tables.{IsAmong, own_tables, TableHalfIsReady}
 use Rattle.module_environ.specs.Types.{look_up_in}
-use Rattle.module_environ.specs.Initialisers.{ActiveItems, Items, FunctionItems, ExpressionItems, active_in, active_elements, view_segment, items_in, view_items, view_first_value}
+use Rattle.module_environ.specs.Initialisers.{type_in, active_items, view_items, view_segment, view_first_value}
 use Rattle.module_environ.specs.Translation.{HasElements, HasEntities, CountsImports, Escapes}
 use Rattle.module_environ.proofs.FromRules.{sized-below}
 use Rattle.module_environ.proofs.Filling.{length-filter_map, All-gathered}
@@ -70,9 +72,9 @@ module _ (look : LookUp) (l : Lists) (visible : List GlobalType) (c : Class) whe
 
 -- ---- items
 
-abbrev cells : Items → List (Option ℕ)
-cells (FunctionItems functions) = map Some functions
-cells (ExpressionItems type list) = map (λ e. unwrap_or (expression_cell e) None) (map expression_of list)
+abbrev cells : Items (Reference Name) (List ConstOp) → List (Option ℕ)
+cells (Functions functions) = map Some functions
+cells (Expressions type list) = map (λ e. unwrap_or (expression_cell e) None) (map expression_of list)
 
 cells-seen : (x : TableSegmentElements) → image_cells (items_of x) ≡ cells (view_items x)
 cells-seen (elements.Functions functions) = refl
@@ -80,9 +82,9 @@ cells-seen (elements.Expressions ty list) = refl
 
 module _ (look : LookUp) (l : Lists) where
   cells-among : (items : ElementItems) → NamesFunctions l items → HasTypedItems l items
-      → All (IsAmong (length l.functions)) (cells (items_in look items))
-  cells-among (Functions indices) names typed = All-map (IsAmong (length l.functions)) Some indices names
-  cells-among (Expressions type list) names typed =
+      → All (IsAmong (length l.functions)) (cells (items_by (type_in look) (const_ops_of look) items))
+  cells-among (plain.Functions indices) names typed = All-map (IsAmong (length l.functions)) Some indices names
+  cells-among (plain.Expressions type list) names typed =
       let A : Option ℕ → Type 0 = IsAmong (length l.functions) in
       let cell : Expression → Option ℕ = λ e. unwrap_or (expression_cell e) None in
       All-map A cell (map expression_of (map (const_ops_of look) list))
@@ -91,17 +93,17 @@ module _ (look : LookUp) (l : Lists) where
       (λ k d lt. cell-among look l l.global_types class.Ref (get_or list k d) (typed k d lt))))
 
   -- what is known of an active segment
-  pub record IsActiveReady (a : ActiveItems) : Type 0 where
+  pub record IsActiveReady (a : ActiveItems (Reference Name) (List ConstOp)) : Type 0 where
     pub table : a.table < length l.table_types
     pub functions : All (IsAmong (length l.functions)) (cells a.items)
 
-  active-ready : (es : List Element) → All (IsElementInRange l) es → All (IsElementTyped l) es → All IsActiveReady (active_elements look es)
+  active-ready : (es : List Element) → All (IsElementInRange l) es → All (IsElementTyped l) es → All IsActiveReady (active_items look es)
   active-ready es ranged typed =
-      All-gathered IsActiveReady (λ (e : Element). active_in look e.kind e.items) es (λ k d lt.
+      All-gathered IsActiveReady (λ (e : Element). active_by (type_in look) (const_ops_of look) e.kind e.items) es (λ k d lt.
       let e = get_or es k d in
       with_kind e.kind e.items (ranged k d lt).table (cells-among e.items (ranged k d lt).items (typed k d lt).items)) where
-        with_kind : (k : ElementKind) (items : ElementItems) → NamesTable l k → All (IsAmong (length l.functions)) (cells (items_in look items))
-            → IfSome (active_in look k items) IsActiveReady
+        with_kind : (k : ElementKind) (items : ElementItems) → NamesTable l k → All (IsAmong (length l.functions)) (cells (items_by (type_in look) (const_ops_of look) items))
+            → IfSome (active_by (type_in look) (const_ops_of look) k items) IsActiveReady
         with_kind (ActiveElement table offset) items in' functions = record { table = in'; functions = functions }
         with_kind _ items in' functions = tt
 
@@ -184,7 +186,7 @@ module _ (debugged : Bool) (m : Module) (t : ModuleTranslation) (has : HasElemen
         few_segments =
             let count = length-map segments active_elements_of in
             let same = sym (length-map segments view_segment) ∙ ap length has.active in
-            let le = length-filter_map (λ (e : Element). active_in look e.kind e.items) l.elements in
+            let le = length-filter_map (λ (e : Element). active_by (type_in look) (const_ops_of look) e.kind e.items) l.elements in
             omega (arith, count, same, le, few.elements);
         in_range = All-map (λ (s : ActiveElements). s.table < length t.module.tables) active_elements_of segments
             (λ k d lt. let in' = (each k d lt).table in omega (arith, in', table_count));

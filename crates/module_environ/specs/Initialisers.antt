@@ -1,9 +1,10 @@
 -- What a translated module is filled with: first values of globals, element and data segments (core
 -- specification, 2.5).
-use Rattle.std.specs.Prelude.{ℕ, ◌+◌, List, [], ◌∷◌, ◌++◌, map, Option, Some, None, unwrap_or, if◌then◌else◌}
+use Rattle.std.specs.Prelude.{ℕ, ◌+◌, List, [], ◌∷◌, ◌++◌, map, Option, Some, None, if◌then◌else◌}
 use Rattle.std.specs.List.{filter_map, enumerate_from}
 use Rattle.std.specs.Option.{option_map}
-use Rattle.wasm_spec.specs.Module.{Expression, TableDef, GlobalDef, ElementItems, Functions, Expressions, ElementKind, ActiveElement, Element, DataKind, Passive, Active, Segment}
+use Rattle.wasm_spec.specs.declared.types.RefType.{RefType}
+use Rattle.wasm_spec.specs.Module.{Expression, TableDef, GlobalDef, Element, DataKind, Passive, Active, Segment}
 use Rattle.wasm_spec.specs.TypeData.{Reference, reference_of, map_reference}
 use Rattle.wasm_index.specs.declared.index.Index.{Index}
 use Rattle.wasm_index.specs.declared.spaces.DefinedGlobalSpace.{DefinedGlobalSpace}
@@ -18,6 +19,7 @@ use Rattle.wasm_module.specs.declared.table_initialization.TableSegment.{TableSe
 use Rattle.wasm_module.specs.declared.table_initialization.TableSegmentElements.{TableSegmentElements}
 use Rattle.wasm_module.specs.declared.table_initialization.TableSegmentElements.TheVariants as elements
 use Rattle.replay_spec.specs.Values.{Value}
+use Rattle.replay_spec.specs.Elements.{Items, Functions, Expressions, ActiveItems, items_by, active_items_by}
 use Rattle.replay_spec.specs.Globals.{simple_of, kept_of}
 use Rattle.replay_spec.specs.Startup.{is_passive, passive_elements}
 
@@ -45,44 +47,25 @@ abbrev pub view_first_value : TableInitialValue → Option (List ConstOp)
 view_first_value initial.Null = None
 view_first_value (initial.Expr e) = Some e
 
--- ---- the items of element segments: functions by their indices, or expressions of a type
+-- ---- element segments, their types and expressions converted
 
-pub data Items : Type 0 where
-  FunctionItems : (functions : List ℕ) → Items
-  ExpressionItems : (type : Reference Name) (expressions : List (List ConstOp)) → Items
+abbrev pub type_in : LookUp → RefType → Reference Name
+type_in look type = map_reference look (reference_of type)
 
-abbrev pub items_in : LookUp → ElementItems → Items
-items_in look (Functions indices) = FunctionItems indices
-items_in look (Expressions type items) = ExpressionItems (map_reference look (reference_of type)) (map (const_ops_of look) items)
+abbrev pub active_items : LookUp → List Element → List (ActiveItems (Reference Name) (List ConstOp))
+active_items look elements = active_items_by (type_in look) (const_ops_of look) elements
 
-abbrev pub view_items : TableSegmentElements → Items
-view_items (elements.Functions functions) = FunctionItems (map number_of functions.items)
-view_items (elements.Expressions ty expressions) = ExpressionItems (view_reference ty) expressions.items
+abbrev pub passive_items : LookUp → List Element → List (Items (Reference Name) (List ConstOp))
+passive_items look elements = map (λ e. items_by (type_in look) (const_ops_of look) e.items) (passive_elements elements)
 
--- ---- active element segments: a table that is not named is the first
+abbrev pub view_items : TableSegmentElements → Items (Reference Name) (List ConstOp)
+view_items (elements.Functions functions) = Functions (map number_of functions.items)
+view_items (elements.Expressions ty expressions) = Expressions (view_reference ty) expressions.items
 
-pub record ActiveItems : Type 0 where
-  pub table : ℕ
-  pub offset : List ConstOp
-  pub items : Items
-
-abbrev pub active_in : LookUp → ElementKind → ElementItems → Option ActiveItems
-active_in look (ActiveElement table offset) items =
-    Some (record { table = unwrap_or table 0; offset = const_ops_of look offset; items = items_in look items })
-active_in look _ items = None
-
-abbrev pub active_elements : LookUp → List Element → List ActiveItems
-active_elements look elements = filter_map (λ e. active_in look e.kind e.items) elements
-
-abbrev pub view_segment : TableSegment → ActiveItems
+abbrev pub view_segment : TableSegment → ActiveItems (Reference Name) (List ConstOp)
 view_segment s = record { table = number_of s.table_index; offset = s.offset; items = view_items s.elements }
 
--- ---- passive element segments, and the number of each among those
-
-abbrev pub passive_items : LookUp → List Element → List Items
-passive_items look elements = map (λ e. items_in look e.items) (passive_elements elements)
-
--- by the position among all segments; the first has a number
+-- the number of each passive segment among those, by its position among all; the first has a given one
 abbrev pub passive_numbers : ℕ → List Element → List (Option ℕ)
 passive_numbers next [] = []
 passive_numbers next (e ∷ es) = if is_passive e.kind then Some next ∷ passive_numbers (next + 1) es else None ∷ passive_numbers next es

@@ -12,7 +12,7 @@ use Rattle.wasm_convert.specs.Operators.{KnowsOperator}
 use Rattle.wasm_module.specs.Elements.{element_type, element_count}
 use Rattle.module_environ.specs.declared.elements.ElementSegments.{ElementSegments}
 use Rattle.module_environ.specs.Convertible.{IsConvertible}
-use Rattle.module_environ.specs.Initialisers.{active_elements, view_segment, passive_items, view_items, passive_numbers}
+use Rattle.module_environ.specs.Initialisers.{active_items, view_segment, passive_items, view_items, passive_numbers}
 
 -- over the indices that an environment knows
 module _ (known : UnpackedIndex → Type 0) where
@@ -50,7 +50,7 @@ module _ (known : UnpackedIndex → Type 0) where
 -- active segments, and passive ones with their types and lengths, each found by its position among
 -- all
 pub record HoldsElements (look : LookUp) (elements : List Element) (s : ElementSegments) : Type 0 where
-  pub active : map view_segment s.active.items ≡ active_elements look elements
+  pub active : map view_segment s.active.items ≡ active_items look elements
   pub passive : map view_items s.passive ≡ passive_items look elements
   pub kinds : s.kinds ≡ map (λ items. (element_type items, element_count items)) s.passive
   pub numbers : (index : ℕ) → option_map number_of (value_at s.numbers index) ≡ unwrap_or (slice_get (passive_numbers 0 elements) index) None

@@ -31,7 +31,7 @@ use Rattle.module_environ.specs.Entities.{count_of, imported_entities, exported_
 use Rattle.module_environ.specs.Escapes.{escaping, AreSignatures}
 use Rattle.module_environ.specs.Pooled.{pool_of, HasText, HasTexts}
 use Rattle.init_plan.specs.Held.{simple_global_of}
-use Rattle.module_environ.specs.Initialisers.{known_values, left_initialisers, view_initialiser, first_values, view_first_value, active_elements, view_segment, passive_items, view_items, passive_numbers, passive_data_from}
+use Rattle.module_environ.specs.Initialisers.{known_values, left_initialisers, view_initialiser, first_values, view_first_value, active_items, view_segment, passive_items, view_items, passive_numbers, passive_data_from}
 
 -- where the code section's contents begin, and 0 without one
 abbrev pub code_places : plain.Payload → List ℕ
@@ -101,7 +101,7 @@ HasGlobals m t = record {
 abbrev pub HasElements : plain.Module → ModuleTranslation → Type 0
 HasElements m t = record {
   first : map view_first_value t.table_initialization.initial_values ≡ first_values (look_up_in m) (lists_of_module m).tables;
-  active : map view_segment t.table_initialization.segments.items ≡ active_elements (look_up_in m) (lists_of_module m).elements;
+  active : map view_segment t.table_initialization.segments.items ≡ active_items (look_up_in m) (lists_of_module m).elements;
   no_images : map (λ image. image.items) t.module.table_initialization ≡ map (λ table. []) (lists_of_module m).tables;
   passive : map view_items t.passive_elements ≡ passive_items (look_up_in m) (lists_of_module m).elements;
   kinds : t.module.passive_elements ≡ map (λ items. (element_type items, element_count items)) t.passive_elements;

@@ -5,10 +5,11 @@ ghost use Rattle.std.specs.List.{flat_map};
 ghost use Rattle.form_reader.specs.Views.{expression_of, items_of};
 ghost use Rattle.wasm_index.specs.Index.{number_of};
 ghost use Rattle.wasm_convert.specs.Constants.{const_ops_of};
+ghost use Rattle.replay_spec.specs.Elements.{items_by};
 ghost use Rattle.module_environ.specs.Convertible.{IsConvertible};
 ghost use Rattle.module_environ.specs.Escapes.{referred, item_functions};
 ghost use Rattle.module_environ.specs.EscapeLog.{after_escapes};
-ghost use Rattle.module_environ.specs.Initialisers.{items_in, view_items};
+ghost use Rattle.module_environ.specs.Initialisers.{type_in, view_items};
 ghost use Rattle.module_environ.specs.Segments.{AreItemsConvertible};
 
 use crate::escapes::Escaping;
@@ -28,7 +29,7 @@ pub(crate) fn convert_items(
     escaping: &mut Escaping,
 ) -> Result<TableSegmentElements, OutOfMemory>
     requires { AreItemsConvertible (knows env.now) escaping.old.count (items_of items.now) }
-    ensures converted { IfOk result (λ r. view_items r ≡ items_in (look_up env.now) (items_of items.now)) }
+    ensures converted { IfOk result (λ r. view_items r ≡ items_by (type_in (look_up env.now)) (const_ops_of (look_up env.now)) (items_of items.now)) }
     ensures noted { OnOk result (escaping.new ≡ after_escapes escaping.old (item_functions (items_of items.now))) }
 {
     match items {

@@ -6,7 +6,7 @@ use Rattle.wasm_spec.specs.Module.{Import, function_import, memory_import, tag_i
 use Rattle.wasm_convert.specs.Conversion.{LookUp}
 use Rattle.replay_spec.specs.Data.{ActiveSegment, active_of_kind}
 use Rattle.replay_spec.specs.Startup.{passive_elements}
-use Rattle.module_environ.specs.Initialisers.{active_elements, passive_data_in, passive_data_from}
+use Rattle.module_environ.specs.Initialisers.{active_items, passive_data_in, passive_data_from}
 use Rattle.translate.proofs.EntryCounts as counts
 
 abbrev of : {A : Type 0} → (TypeRef → Option A) → List Import → ℕ
@@ -17,7 +17,7 @@ pub kinds-few : (is : List Import) → of function_import is + of memory_import 
 kinds-few is = let all = counts.kinds-few is in omega (arith, all)
 
 -- an element segment is active or passive, or neither
-pub elements-few : (look : LookUp) (es : List Element) → length (active_elements look es) + length (passive_elements es) ≤ length es
+pub elements-few : (look : LookUp) (es : List Element) → length (active_items look es) + length (passive_elements es) ≤ length es
 elements-few = counts.elements-few
 
 abbrev active_among : List Segment → List ActiveSegment

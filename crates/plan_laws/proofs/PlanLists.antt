@@ -29,7 +29,7 @@ use Rattle.init_plan.specs.Views.{images_of, planned_segment_of, processed_of, m
 use Rattle.module_environ.specs.Entities.{imports_after, resolved_import, resolved_export}
 use Rattle.module_environ.specs.Escapes.{AreSignatures}
 use Rattle.init_plan.specs.Held.{simple_global_of}
-use Rattle.module_environ.specs.Initialisers.{initialisers, view_initialiser, view_items, view_segment, active_elements, passive_data_from}
+use Rattle.module_environ.specs.Initialisers.{initialisers, view_initialiser, view_items, view_segment, active_items, passive_data_from}
 use Rattle.module_environ.specs.Types.{look_up_in}
 use Rattle.module_environ.proofs.DeclaredLooks.{listed-long}
 use Rattle.translate.specs.Also.{Finds, passive_bytes_of}
@@ -163,7 +163,7 @@ module _ (i : InitOptions) (bytes : List ℕ) (m : plain.Module) (keeps : Keeps 
   elements =
       let old = is.rest.before in
       let es = flat_map plain.elements_of_section m in
-      let counted : length old.table_initialization.segments.items ≡ length (active_elements (look_up_in m) es) =
+      let counted : length old.table_initialization.segments.items ≡ length (active_items (look_up_in m) es) =
       sym (length-map old.table_initialization.segments.items view_segment) ∙ ap length is.rest.translation.sections.elements.active in
       let kinds : length t.module.passive_elements ≡ length t.passive_elements = ap length rest.kinds ∙ length-map t.passive_elements _ in
       let passive : length t.passive_elements ≡ length (passive_elements es) =

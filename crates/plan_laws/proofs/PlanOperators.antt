@@ -8,12 +8,15 @@ use Rattle.std.proofs.lemmas.List.Sums.{sum_by-cons, sum_by-take-drop}
 use Rattle.wasm_spec.specs.Module as plain
 use Rattle.wasm_spec.specs.Module.{Expression, TableDef, GlobalDef, Element, ElementItems, ElementKind, PassiveElement, DeclaredElement, ActiveElement}
 use Rattle.rule_spec.specs.Rules.{Keeps}
+use Rattle.wasm_spec.specs.TypeData.{Reference}
+use Rattle.replay_spec.specs.Elements.{ActiveItems, active_by}
 use Rattle.replay_spec.specs.Globals.{kept_of}
 use Rattle.replay_spec.specs.Values.{const_value}
 use Rattle.wasm_index.specs.declared.index.Index.{Index}
 use Rattle.wasm_index.specs.declared.spaces.DefinedGlobalSpace.{DefinedGlobalSpace}
 use Rattle.wasm_index.specs.declared.spaces.MemorySpace.{MemorySpace}
 use Rattle.wasm_index.specs.declared.spaces.RuntimeDataSpace.{RuntimeDataSpace}
+use Rattle.wasm_types.specs.ValueViews.{Name}
 use Rattle.wasm_convert.specs.declared.operators.ConstOp.{ConstOp}
 use Rattle.wasm_convert.specs.Constants.{const_ops_of}
 use Rattle.wasm_convert.specs.Conversion.{LookUp}
@@ -27,7 +30,7 @@ use Rattle.init_plan.specs.declared.translation.MemorySegmentOffset.{MemorySegme
 use Rattle.init_plan.specs.declared.translation.MemorySegmentOffset.TheVariants as offset
 use Rattle.init_plan.specs.declared.translation.ModuleTranslation.{ModuleTranslation}
 use Rattle.init_plan.specs.Views.{planned_offset_of, planned_segment_of, processed_of}
-use Rattle.module_environ.specs.Initialisers.{ActiveItems, initialisers, left_initialisers, view_initialiser, first_values, view_first_value, active_in, active_elements, view_segment}
+use Rattle.module_environ.specs.Initialisers.{initialisers, left_initialisers, view_initialiser, first_values, view_first_value, type_in, active_items, view_segment}
 use Rattle.module_environ.specs.Types.{look_up_in}
 use Rattle.translate.specs.Initialised.{IsInitialised}
 use Rattle.translate.specs.Options.{InitOptions}
@@ -86,16 +89,16 @@ cells-same look ts = sum-mapped (λ (t : TableDef). option_map (const_ops_of loo
 
 -- ---- element segments
 
-abbrev item_offset : ActiveItems → ℕ
+abbrev item_offset : ActiveItems (Reference Name) (List ConstOp) → ℕ
 item_offset s = length s.offset
 
-active-below : (look : LookUp) (k : ElementKind) (items : ElementItems) → if_any item_offset (active_in look k items) ≤ kind_operators k
+active-below : (look : LookUp) (k : ElementKind) (items : ElementItems) → if_any item_offset (active_by (type_in look) (const_ops_of look) k items) ≤ kind_operators k
 active-below look PassiveElement items = omega arith
 active-below look DeclaredElement items = omega arith
 active-below look (ActiveElement table e) items = omega (arith, length-map e (λ read. (conversion look read).op))
 
-offsets-below : (look : LookUp) (es : List Element) → sum_by item_offset (active_elements look es) ≤ sum_by element_operators es
-offsets-below look es = sum-kept (λ (e : Element). active_in look e.kind e.items) item_offset element_operators (λ e. active-below look e.kind e.items) es
+offsets-below : (look : LookUp) (es : List Element) → sum_by item_offset (active_items look es) ≤ sum_by element_operators es
+offsets-below look es = sum-kept (λ (e : Element). active_by (type_in look) (const_ops_of look) e.kind e.items) item_offset element_operators (λ e. active-below look e.kind e.items) es
 
 -- ---- data segments
 

@@ -9,6 +9,7 @@ use Rattle.entity_map.specs.Secondary.{value_at}
 use Rattle.type_spec.specs.ListLaws.{map-twice}
 use Rattle.wasm_spec.specs.Module as plain
 use Rattle.rule_spec.specs.Rules.{Keeps}
+use Rattle.wasm_spec.specs.TypeData.{Reference}
 use Rattle.wasm_index.specs.declared.index.Index.{Index}
 use Rattle.wasm_index.specs.declared.spaces.FuncSpace.{FuncSpace}
 use Rattle.wasm_index.specs.Index.{number_of, index_of}
@@ -18,6 +19,7 @@ use Rattle.wasm_types.specs.declared.sub.WasmSubType.{WasmSubType}
 use Rattle.wasm_types.specs.declared.table.Table.{Table}
 use Rattle.wasm_types.specs.declared.value.WasmRefType.{WasmRefType}
 use Rattle.wasm_types.specs.EntityViews.{global_of, table_of, global_back, table_back}
+use Rattle.wasm_types.specs.ValueViews.{Name}
 use Rattle.wasm_types.specs.ViewsTell.{Back, tells, reference_back}
 use Rattle.wasm_convert.specs.declared.operators.ConstOp.{ConstOp}
 use Rattle.wasm_module.specs.declared.table_initialization.TableInitialValue.{TableInitialValue}
@@ -26,6 +28,7 @@ use Rattle.wasm_module.specs.declared.table_initialization.TableSegmentElements.
 use Rattle.wasm_module.specs.declared.table_initialization.TableSegmentElements.TheVariants as elements
 use Rattle.wasm_module.specs.Elements.{element_type, element_count}
 use Rattle.form_reader.proofs.SectionLaws.{module_once}
+use Rattle.replay_spec.specs.Elements.{Items, Functions, Expressions}
 use Rattle.replay_spec.specs.Plan.{MemoryPlan, ranges_from}
 use Rattle.replay_spec.specs.Startup.{Startup}
 use Rattle.replay_spec.specs.Tables.{PlannedTable, TablePlan}
@@ -38,7 +41,7 @@ use Rattle.init_plan.specs.declared.translation.ModuleTranslation.{ModuleTransla
 use Rattle.init_plan.specs.Startup.{startup_with}
 use Rattle.init_plan.specs.Tables.{own_tables, plan_of_tables}
 use Rattle.init_plan.specs.Views.{memory_plan_of, FindsInOrder}
-use Rattle.module_environ.specs.Initialisers.{Items, FunctionItems, ExpressionItems, view_initialiser, view_first_value, view_items, view_segment, passive_data_from}
+use Rattle.module_environ.specs.Initialisers.{view_initialiser, view_first_value, view_items, view_segment, passive_data_from}
 use Rattle.module_environ.specs.Customs.{names_asked}
 use Rattle.module_environ.specs.Types.{interned_list, type_index, look_up_in}
 use Rattle.module_environ.specs.Readable.{IsReadable}
@@ -78,9 +81,9 @@ initialiser-back : Back (view_initialiser (λ (e : List ConstOp). e))
 initialiser-back = record { back = λ g. (index_of g.0, g.1); is = λ g. refl }
 
 -- the type and the number of elements
-kind_by : Items → WasmRefType × ℕ
-kind_by (FunctionItems functions) = (record { nullable = true; heap_type = Func }, length functions)
-kind_by (ExpressionItems type expressions) = (reference_back.back type, length expressions)
+kind_by : Items (Reference Name) (List ConstOp) → WasmRefType × ℕ
+kind_by (Functions functions) = (record { nullable = true; heap_type = Func }, length functions)
+kind_by (Expressions type expressions) = (reference_back.back type, length expressions)
 
 abbrev kind_of : TableSegmentElements → WasmRefType × ℕ
 kind_of e = (element_type e, element_count e)

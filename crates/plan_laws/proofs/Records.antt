@@ -10,13 +10,15 @@ use Rattle.std.proofs.lemmas.List.{length-map}
 use Rattle.entity_map.specs.Keyed.{keyed, keyed_from}
 use Rattle.type_spec.specs.ListLaws.{map-twice}
 use Rattle.wasm_spec.specs.Module.{Body}
-use Rattle.wasm_spec.specs.TypeData.{Value}
+use Rattle.wasm_spec.specs.TypeData.{Value, Reference}
 use Rattle.form_reader.specs.Views.{body_of}
 use Rattle.wasm_index.specs.declared.index.Index.{Index}
 use Rattle.wasm_index.specs.declared.spaces.FuncSpace.{FuncSpace}
 use Rattle.wasm_index.specs.Index.{number_of, index_of}
 use Rattle.wasm_types.specs.ValueViews.{Name, value_of as view_value}
 use Rattle.wasm_types.specs.ViewsTell.{value_back}
+use Rattle.wasm_convert.specs.declared.operators.ConstOp.{ConstOp}
+use Rattle.replay_spec.specs.Elements.{ActiveItems}
 use Rattle.wasm_module.specs.declared.function.FunctionType.{FunctionType}
 use Rattle.wasm_module.specs.declared.table_initialization.TableSegment.{TableSegment}
 use Rattle.gc_layout.specs.declared.object.GcLayout.{GcLayout}
@@ -33,7 +35,7 @@ use Rattle.init_plan.specs.declared.translation.RuntimeBytes.{RuntimeBytes}
 use Rattle.init_plan.specs.declared.translation.RuntimeBytes.TheVariants as runtime
 use Rattle.init_plan.specs.Views.{bytes_of}
 use Rattle.module_customs.specs.Names.{Text}
-use Rattle.module_environ.specs.Initialisers.{ActiveItems, view_items, view_segment}
+use Rattle.module_environ.specs.Initialisers.{view_items, view_segment}
 use Rattle.module_environ.specs.Metadata.{FunctionData, view_function}
 use Rattle.vm_offsets.specs.Context.{context_entries, context_size, entry_named}
 use Rattle.vm_offsets.specs.Layouts.{pointer_of}
@@ -171,7 +173,7 @@ planned-by : (m : MemoryInit) → planned_of m ≡ left_of m
 planned-by (init.Unprocessed segments) = refl
 planned-by (init.Processed segments) = refl
 
-element_by : ActiveItems → ElementsRow
+element_by : ActiveItems (Reference Name) (List ConstOp) → ElementsRow
 element_by s = record {
   table = s.table;
   kind = (expression_place s.offset).0;

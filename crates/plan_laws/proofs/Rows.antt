@@ -5,11 +5,14 @@ use Rattle.std.specs.Option.{option_map}
 use Rattle.std.proofs.lemmas.List.{length-map}
 use Rattle.entity_map.specs.declared.pool.Atom.{Atom}
 use Rattle.type_spec.specs.ListLaws.{map-twice}
+use Rattle.wasm_spec.specs.TypeData.{Reference}
 use Rattle.wasm_index.specs.Index.{number_of}
 use Rattle.wasm_types.specs.declared.entity.EntityIndex.{EntityIndex}
+use Rattle.wasm_types.specs.ValueViews.{Name}
 use Rattle.wasm_types.specs.ViewsTell.{reference_back}
 use Rattle.wasm_types.specs.declared.heap.WasmHeapType.TheVariants.{Func}
 use Rattle.wasm_convert.specs.declared.operators.ConstOp.{ConstOp}
+use Rattle.replay_spec.specs.Elements.{Items, Functions, Expressions}
 use Rattle.wasm_module.specs.declared.initializer.Initializer.{Initializer}
 use Rattle.wasm_module.specs.declared.initializer.Initializer.TheVariants.{Import}
 use Rattle.wasm_module.specs.declared.module.Module.{Module}
@@ -17,7 +20,7 @@ use Rattle.wasm_module.specs.declared.table_initialization.TableSegmentElements.
 use Rattle.wasm_module.specs.declared.table_initialization.TableSegmentElements.TheVariants as elements
 use Rattle.wasm_module.specs.Elements.{element_type}
 use Rattle.module_environ.specs.Entities.{NamedEntity, text_at, resolved_import, resolved_export}
-use Rattle.module_environ.specs.Initialisers.{Items, FunctionItems, ExpressionItems, view_items}
+use Rattle.module_environ.specs.Initialisers.{view_items}
 use Rattle.plan_lines.specs.NameLines.{kind_number}
 use Rattle.plan_tables.specs.declared.record.ElementItemsRecord.{ElementItemsRecord}
 use Rattle.plan_tables.specs.declared.record.ExpressionsRecord.{ExpressionsRecord}
@@ -158,13 +161,13 @@ module _ {X V : Type 0} (view : X → V) (xs ys : List X) (same : map view xs �
     rows = c.rows ∙ lines-told view (λ x. map operator_row (operators x)) (λ v. map operator_row (by v)) (λ x. ap (map operator_row) (is x)) xs ys same;
   }
 
-functions_by : Items → List ℕ
-functions_by (FunctionItems functions) = functions
-functions_by (ExpressionItems type expressions) = []
+functions_by : Items (Reference Name) (List ConstOp) → List ℕ
+functions_by (Functions functions) = functions
+functions_by (Expressions type expressions) = []
 
-expressions_by : Items → List (List ConstOp)
-expressions_by (FunctionItems functions) = []
-expressions_by (ExpressionItems type expressions) = expressions
+expressions_by : Items (Reference Name) (List ConstOp) → List (List ConstOp)
+expressions_by (Functions functions) = []
+expressions_by (Expressions type expressions) = expressions
 
 functions-by : (e : TableSegmentElements) → map number_of (functions_in e) ≡ functions_by (view_items e)
 unfolding functions_by
@@ -184,13 +187,13 @@ row_of f e x = record {
   expressions = record { begin = e; len = length (expressions_in x) };
 }
 
-row_by : ℕ → ℕ → Items → ItemsRow
-row_by f e (FunctionItems functions) = record {
+row_by : ℕ → ℕ → Items (Reference Name) (List ConstOp) → ItemsRow
+row_by f e (Functions functions) = record {
   element = ref_row (record { nullable = true; heap_type = Func });
   functions = record { begin = f; len = length functions };
   expressions = record { begin = e; len = 0 };
 }
-row_by f e (ExpressionItems type expressions) = record {
+row_by f e (Expressions type expressions) = record {
   element = ref_row (reference_back.back type);
   functions = record { begin = f; len = 0 };
   expressions = record { begin = e; len = length expressions };
@@ -209,7 +212,7 @@ row-by f e (elements.Expressions ty expressions) = λ i. record {
   expressions = record { begin = e; len = length expressions.items };
 }
 
-rows_by : ℕ → ℕ → List Items → List ItemsRow
+rows_by : ℕ → ℕ → List (Items (Reference Name) (List ConstOp)) → List ItemsRow
 rows_by f e [] = []
 rows_by f e (x ∷ xs) = row_by f e x ∷ rows_by (f + length (functions_by x)) (e + length (expressions_by x)) xs
 
@@ -221,11 +224,11 @@ rows-by f e (x ∷ xs) =
     (λ i. row-by f e x i ∷ rows-by (f + length (functions_in x)) (e + length (expressions_in x)) xs i)
     ∙ (λ i. row_by f e (view_items x) ∷ rows_by (f + functions i) (e + length (expressions-by x i)) (map view_items xs))
 
-module _ {X V : Type 0} (view : X → V) (of : X → TableSegmentElements) (items : V → Items) (is : (x : X) → view_items (of x) ≡ items (view x)) (xs ys : List X)
+module _ {X V : Type 0} (view : X → V) (of : X → TableSegmentElements) (items : V → Items (Reference Name) (List ConstOp)) (is : (x : X) → view_items (of x) ≡ items (view x)) (xs ys : List X)
     (same : map view xs ≡ map view ys) where
   viewed : map view_items (map of xs) ≡ map view_items (map of ys)
   viewed =
-      let both : X → Items = (λ x. view_items (of x)) in
+      let both : X → Items (Reference Name) (List ConstOp) = (λ x. view_items (of x)) in
       map-twice of view_items both (λ x. refl) xs ∙ rows-told view both items is xs ys same ∙ sym (map-twice of view_items both (λ x. refl) ys)
 
   all-expressions : flat_map (λ x. expressions_in (of x)) xs ≡ flat_map (λ x. expressions_in (of x)) ys

@@ -7,6 +7,7 @@ use Rattle.std.specs.Global.{Vec}
 use Rattle.std.specs.declared.ops.Range.{Range}
 use Rattle.std.proofs.lemmas.List.{length-map}
 use Rattle.entity_map.specs.declared.pool.Atom.{Atom}
+use Rattle.wasm_spec.specs.TypeData.{Reference}
 use Rattle.wasm_index.specs.declared.index.Index.{Index}
 use Rattle.wasm_index.specs.declared.spaces.DefinedTableSpace.{DefinedTableSpace}
 use Rattle.wasm_index.specs.declared.spaces.FuncSpace.{FuncSpace}
@@ -15,6 +16,9 @@ use Rattle.wasm_index.specs.declared.spaces.ModuleInternedTypeSpace.{ModuleInter
 use Rattle.wasm_index.specs.declared.spaces.RuntimeDataSpace.{RuntimeDataSpace}
 use Rattle.wasm_index.specs.Index.{number_of, index_of}
 use Rattle.wasm_types.specs.declared.entity.EntityIndex.{EntityIndex}
+use Rattle.wasm_types.specs.ValueViews.{Name}
+use Rattle.wasm_convert.specs.declared.operators.ConstOp.{ConstOp}
+use Rattle.replay_spec.specs.Elements.{Items, Functions, Expressions, ActiveItems}
 use Rattle.wasm_module.specs.Elements.{element_count}
 use Rattle.wasm_module.specs.declared.function.FunctionType.{FunctionType}
 use Rattle.wasm_module.specs.declared.initializer.Initializer.{Initializer}
@@ -32,7 +36,7 @@ use Rattle.init_plan.specs.declared.translation.MemoryInit.{MemoryInit}
 use Rattle.init_plan.specs.declared.translation.MemoryInit.TheVariants as init
 use Rattle.init_plan.specs.declared.translation.MemorySegmentOffset.{MemorySegmentOffset}
 use Rattle.module_environ.specs.Entities.{NamedEntity, text_at, resolved_import, resolved_export}
-use Rattle.module_environ.specs.Initialisers.{Items, FunctionItems, ExpressionItems, ActiveItems, view_items, view_segment}
+use Rattle.module_environ.specs.Initialisers.{view_items, view_segment}
 use Rattle.vm_offsets.specs.Context.{context_size}
 use Rattle.vm_offsets.specs.Regions.{context_regions}
 use Rattle.plan_text.specs.declared.plan.Plan.{Plan}
@@ -113,16 +117,16 @@ module _ (x y : Module) (same : SameModule x y) where
 
 -- ---- element segments
 
-pub items_count : Items → ℕ
-items_count (FunctionItems functions) = length functions
-items_count (ExpressionItems type expressions) = length expressions
+pub items_count : Items (Reference Name) (List ConstOp) → ℕ
+items_count (Functions functions) = length functions
+items_count (Expressions type expressions) = length expressions
 
 pub count-by : (e : TableSegmentElements) → element_count e ≡ items_count (view_items e)
 unfolding items_count
 count-by (elements.Functions functions) = sym (length-map functions.items number_of)
 count-by (elements.Expressions ty expressions) = refl
 
-segment_by : ActiveItems → List ℕ
+segment_by : ActiveItems (Reference Name) (List ConstOp) → List ℕ
 segment_by s = codes "element " ++ decimal s.table ++ codes " " ++ decimal (items_count s.items) ++ codes " at " ++ expression_text s.offset ++ codes "\n"
 
 element-by : (s : TableSegment) → element_line s ≡ segment_by (view_segment s)

@@ -25,9 +25,9 @@ abbrev pub image_of : List (Index FuncSpace) → List (Option ℕ)
 image_of indices = map cell_of indices
 
 -- the items of a segment
-abbrev pub items_of : TableSegmentElements → Items
+abbrev pub items_of : TableSegmentElements → Items (Unit {0}) Expression
 items_of (elements.Functions functions) = Functions (map number_of functions.items)
-items_of (elements.Expressions ty expressions) = Expressions (map expression_of expressions.items)
+items_of (elements.Expressions ty expressions) = Expressions tt (map expression_of expressions.items)
 
 abbrev pub active_elements_of : TableSegment → ActiveElements
 active_elements_of s = record { table = number_of s.table_index; offset = expression_of s.offset; items = items_of s.elements }

@@ -25,7 +25,7 @@ use Rattle.init_plan.specs.Views.{memory_plan_of}
 use Rattle.init_plan.specs.Images.{HasTightImages}
 use Rattle.init_plan.specs.Tables.{plan_of_tables}
 use Rattle.module_environ.specs.Readable.{IsReadable}
-use Rattle.module_environ.specs.Initialisers.{view_segment, view_items, active_elements}
+use Rattle.module_environ.specs.Initialisers.{view_segment, view_items, active_items}
 use Rattle.module_types.specs.Views.{interned_of}
 use Rattle.module_types.proofs.NamingEarlier.{keeps-earlier}
 use Rattle.module_environ.specs.Types.{look_up_in}
@@ -77,7 +77,7 @@ module _ (i : InitOptions) (bytes : List ℕ) (m : plain.Module) (read : IsReada
   exports = ap (λ (x : ModuleTranslation). length x.module.exports.entries) same ∙ sym (length-map old.module.exports.entries _)
       ∙ ap length is.rest.translation.sections.entities.exports ∙ length-map (flat_map plain.exports_of_section m) _
 
-  active : length t.table_initialization.segments.items ≤ length (active_elements (look_up_in m) (flat_map plain.elements_of_section m))
+  active : length t.table_initialization.segments.items ≤ length (active_items (look_up_in m) (flat_map plain.elements_of_section m))
   active =
       let left = ap length is.rest.left.segments in
       let cut = length-drop is.rest.left.taken old.table_initialization.segments.items in

@@ -7,10 +7,12 @@ use Rattle.wasm_spec.specs.declared.entities.TypeRef.{TypeRef}
 use Rattle.wasm_spec.specs.declared.entities.TypeRef.TheVariants as imported
 use Rattle.wasm_spec.specs.Module.{Import, function_import, table_import, memory_import, global_import, tag_import, DataKind, Passive, Active, Segment, Element, ElementKind, ElementItems, PassiveElement, DeclaredElement, ActiveElement}
 use Rattle.wasm_convert.specs.Conversion.{LookUp}
+use Rattle.wasm_convert.specs.Constants.{const_ops_of}
 use Rattle.replay_spec.specs.Data.{ActiveSegment, active_of_kind}
+use Rattle.replay_spec.specs.Elements.{active_by}
 use Rattle.replay_spec.specs.Held.{held_segment}
 use Rattle.replay_spec.specs.Startup.{is_passive, passive_elements}
-use Rattle.module_environ.specs.Initialisers.{active_in, active_elements, passive_data_in, passive_data_from}
+use Rattle.module_environ.specs.Initialisers.{type_in, active_items, passive_data_in, passive_data_from}
 
 abbrev of : {A : Type 0} → (TypeRef → Option A) → List Import → ℕ
 of kind is = length (filter_map (λ i. kind i.type) is)
@@ -33,11 +35,11 @@ kinds-few (i ∷ is) = by i.type (kinds-few is) where
   by (imported.Tag type) e = omega (arith, e)
 
 -- an element segment is active or passive, or neither
-pub elements-few : (look : LookUp) (es : List Element) → length (active_elements look es) + length (passive_elements es) ≤ length es
+pub elements-few : (look : LookUp) (es : List Element) → length (active_items look es) + length (passive_elements es) ≤ length es
 elements-few look [] = omega arith
 elements-few look (e ∷ es) = by e.kind e.items (elements-few look es) where
-  by : (k : ElementKind) (items : ElementItems) → length (active_elements look es) + length (passive_elements es) ≤ length es
-      → length (cons_option (active_in look k items) (active_elements look es)) + length (passive_elements (record e { kind = k } ∷ es)) ≤ length (e ∷ es)
+  by : (k : ElementKind) (items : ElementItems) → length (active_items look es) + length (passive_elements es) ≤ length es
+      → length (cons_option (active_by (type_in look) (const_ops_of look) k items) (active_items look es)) + length (passive_elements (record e { kind = k } ∷ es)) ≤ length (e ∷ es)
   by (ActiveElement table offset) items few = omega (arith, few)
   by PassiveElement items few = omega (arith, few)
   by DeclaredElement items few = omega (arith, few)

@@ -6,7 +6,7 @@ use Rattle.std.specs.List.{flat_map}
 use Rattle.module_environ.specs.EscapeLog.{EscapeLog}
 use Rattle.module_environ.specs.Escapes.{referred, referred_if_any, item_functions}
 use Rattle.module_environ.specs.Exported.{exported_functions}
-use Rattle.module_environ.specs.Initialisers.{first_values, left_initialisers, active_elements, passive_items}
+use Rattle.module_environ.specs.Initialisers.{first_values, left_initialisers, active_items, passive_items}
 use Rattle.module_environ.proofs.FilledInitialisers.{on_ok, noted_all, no_images_of}
 use Rattle.module_environ.proofs.RuledSections.{table-initialisers, global-initialisers, elements-convert, segments-convert, exports-in-range}
 use Rattle.module_environ.proofs.sections.fill_initialisers.Goals as goal
@@ -63,7 +63,7 @@ returns g c =
       };
       elements = record {
         first = c.in_ok-values.ensures.values ∙ ap (λ look. first_values look l.tables) same;
-        active = h.active ∙ ap (λ look. active_elements look l.elements) same;
+        active = h.active ∙ ap (λ look. active_items look l.elements) same;
         no_images = no_images_of _ l.tables c.in_ok-values.values _ c.in_ok-values.ensures.values _ c.len.ensures.length
             c.in_ok-translation.ensures;
         passive = h.passive ∙ ap (λ look. passive_items look l.elements) same;
