@@ -1,35 +1,23 @@
 //! What makes a module too large: each public call of `plan_excess` once, with ample memory.
 
-use command_words::Collector;
+use command_words::Command;
 use plan_excess::{Excess, ExcessKind, locate_excess};
 use refusal_place::SectionKind;
 use rule_breaks::EntryPlace;
 use std::test::Fail;
 use wasm_types::Tunables;
 
-/// Data segments become images of memories where they can.
-const WITH_IMAGES: Tunables = Tunables {
-    debug_native: false,
-    debug_guest: false,
-    parse_wasm_debuginfo: false,
-    branch_hinting: false,
-    memory_init_cow: true,
-    table_lazy_init: false,
-    signals_based_traps: false,
-};
-
-/// What is too large, where images of up to 8 GiB are always made.
+/// What is too large, where data segments become images, and images of up to 8 GiB are always made.
 fn excess_of(rt: &HostRuntime, bytes: &[u8]) -> Result<Option<Excess>, Fail> {
-    let max_image = 8_589_934_592;
-    Ok(locate_excess(
-        rt.alloc(),
-        &WITH_IMAGES,
-        Collector::Drc,
-        8,
-        4096,
-        max_image,
-        bytes,
-    )?)
+    let command = Command {
+        tunables: Tunables {
+            memory_init_cow: true,
+            ..Command::PLAIN.tunables
+        },
+        max_image: 8_589_934_592,
+        ..Command::PLAIN
+    };
+    Ok(locate_excess(rt.alloc(), &command, bytes)?)
 }
 
 /// Two memories of 65536 pages. The first has a byte at 0, and the second at 4096 and at 2^32 - 1.

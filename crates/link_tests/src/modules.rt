@@ -1,19 +1,15 @@
 //! Modules whose types are registered.
 
-ghost use Rattle.std.specs.Prelude.{◌≡◌, false, IfOk, OnOk};
-ghost use Rattle.module_types.specs.Builder.{builder_view, new_builder};
+ghost use Rattle.std.specs.Prelude.{IfOk};
 ghost use Rattle.module_types.specs.Listed.{Listed};
+ghost use Rattle.plan_link.specs.Linked.{IsSomePlan};
 
-use entity_map::EntityRef;
-use form_types::Validator;
-use init_plan::ModuleTranslation;
-use module_environ::{EnvironError, ModuleEnvironment};
-use module_types::{ModuleTypes, ModuleTypesBuilder};
-use plan_link::{planned_can_link, translated_can_link};
+use crate::translated::translated;
+use module_environ::EnvironError;
+use module_types::ModuleTypes;
+use plan_link::planned_can_link;
 use std::alloc::Global;
-use translate::{Collector, Plan, TranslateError, translate_module};
-use wasm_index::StaticModuleIndex;
-use wasm_types::Tunables;
+use translate::{Command, Plan, TranslateError};
 
 /// A function type without parameters and results twice, each in its own group, and one that is not
 /// final. The first two are equal, so the list has two types.
@@ -55,59 +51,20 @@ pub(crate) const SAME_BEHIND_ANOTHER: [u8; 35] = [
     0x0D, 0x03, 0x01, 0x00, 0x03, // tags
 ];
 
-/// No switch is on.
-const PLAIN: Tunables = Tunables {
-    debug_native: false,
-    debug_guest: false,
-    parse_wasm_debuginfo: false,
-    branch_hinting: false,
-    memory_init_cow: false,
-    table_lazy_init: false,
-    signals_based_traps: false,
-};
-
-/// The plan of a module, for pointers of eight bytes.
+/// The plan of a module.
 pub(crate) fn plan_of<'d>(alloc: Global, bytes: &'d [u8]) -> Result<Plan<'d>, TranslateError>
-    ensures { IfOk result (λ plan. Listed plan.types) }
+    ensures some { IfOk result IsSomePlan }
+    ensures listed { IfOk result (λ plan. Listed plan.types) }
 {
     planned_can_link();
-    let page_size = 4096u64.next_power_of_two();
-    translate_module(
-        alloc,
-        &PLAIN,
-        Collector::Drc,
-        8,
-        page_size,
-        1_048_576,
-        bytes,
-    )
-}
-
-// The translation of a module. The builder holds its types.
-fn translation_of<'d>(
-    alloc: Global,
-    validator: &Validator,
-    types: &mut ModuleTypesBuilder,
-    bytes: &'d [u8],
-) -> Result<ModuleTranslation<'d>, EnvironError>
-    requires { builder_view types.old ≡ new_builder validator.now }
-    ensures listed { OnOk result (Listed types.new.list) }
-    ensures sound { OnOk result (types.new.is_poisoned ≡ false) }
-{
-    translated_can_link();
-    let index = StaticModuleIndex::from_u32(0);
-    let environment = ModuleEnvironment::new(alloc, &PLAIN, validator, types, index)?;
-    let translation = environment.translate(alloc, bytes)?;
-    Ok(translation)
+    translate::plan_of(alloc, &Command::PLAIN, bytes)
 }
 
 /// The types of a module, as they are translated.
 pub(crate) fn types_of(alloc: Global, bytes: &[u8]) -> Result<ModuleTypes, EnvironError>
     ensures { IfOk result Listed }
 {
-    let validator = Validator::new(0);
-    let mut types = ModuleTypesBuilder::new(alloc, &validator);
-    let translation = translation_of(alloc, &validator, &mut types, bytes)?;
+    let (translation, types) = translated(alloc, bytes)?;
     drop(translation);
-    Ok(types.finish())
+    Ok(types)
 }

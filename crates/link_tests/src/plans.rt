@@ -1,30 +1,14 @@
 //! Two plans that are linked, import by import, and the lines of the rules.
 
-ghost use Rattle.std.specs.Prelude.{IfOk};
 ghost use Rattle.plan_link.specs.Linked.{IsSomePlan};
 
-use crate::translated::PLAIN;
+use crate::modules::plan_of;
 use crate::two_modules::{FIRST, MEMORY_MIN, SECOND, TAG_NAME};
 use import_match::Mismatch;
 use plan_link::{ImportAnswer, link_plans, mismatch_line};
 use std::alloc::Global;
 use std::test::Fail;
-use translate::{Collector, Plan, TranslateError, translate_module};
-
-pub(crate) fn plan_of<'d>(alloc: Global, bytes: &'d [u8]) -> Result<Plan<'d>, TranslateError>
-    ensures { IfOk result IsSomePlan }
-{
-    let page_size = 4096u64.next_power_of_two();
-    translate_module(
-        alloc,
-        &PLAIN,
-        Collector::Drc,
-        8,
-        page_size,
-        1_048_576,
-        bytes,
-    )
-}
+use translate::Plan;
 
 fn link_to(alloc: Global, exporter: &Plan<'_>, importer: &[u8]) -> Result<Vec<ImportAnswer>, Fail>
     requires { IsSomePlan exporter.now }

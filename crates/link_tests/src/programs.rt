@@ -3,7 +3,7 @@
 ghost use Rattle.plan_link.specs.Linked.{IsSomePlan};
 ghost use Rattle.plan_link.specs.Program.{IsPlannedModule};
 
-use crate::plans::plan_of;
+use crate::modules::plan_of;
 use plan_link::{ImportAnswer, LinkedModule, ProgramError, ProgramModule, link_program};
 use std::alloc::Global;
 use std::test::Fail;

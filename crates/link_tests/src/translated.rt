@@ -15,20 +15,9 @@ use module_environ::{EnvironError, ModuleEnvironment};
 use module_types::{ModuleTypes, ModuleTypesBuilder};
 use plan_link::translated_can_link;
 use std::alloc::Global;
+use translate::Command;
 use type_registry::{ModuleKey, RegistryError, TypeRegistry, registered_law, sound_law};
 use wasm_index::StaticModuleIndex;
-use wasm_types::Tunables;
-
-/// No switch is on.
-pub(crate) const PLAIN: Tunables = Tunables {
-    debug_native: false,
-    debug_guest: false,
-    parse_wasm_debuginfo: false,
-    branch_hinting: false,
-    memory_init_cow: false,
-    table_lazy_init: false,
-    signals_based_traps: false,
-};
 
 // The translation of the module that the bytes spell. The builder holds its types.
 fn translation_of<'d>(
@@ -43,7 +32,8 @@ fn translation_of<'d>(
 {
     translated_can_link();
     let index = StaticModuleIndex::from_u32(0);
-    let environment = ModuleEnvironment::new(alloc, &PLAIN, validator, types, index)?;
+    let tunables = &Command::PLAIN.tunables;
+    let environment = ModuleEnvironment::new(alloc, tunables, validator, types, index)?;
     let translation = environment.translate(alloc, bytes)?;
     Ok(translation)
 }

@@ -70,15 +70,7 @@ fn refusal_of(alloc: Global, case: &Case, bytes: &[u8]) -> Result<Option<Refusal
 /// What makes the bytes too large to be planned with these words, where something does.
 fn excess_of(alloc: Global, words: &[String], bytes: &[u8]) -> Result<Option<Excess>, OutOfMemory> {
     match read_words(words) {
-        Some(command) => locate_excess(
-            alloc,
-            &command.tunables,
-            command.collector,
-            command.ptr,
-            command.page_size,
-            command.max_image,
-            bytes,
-        ),
+        Some(command) => locate_excess(alloc, &command, bytes),
         None => Ok(None),
     }
 }

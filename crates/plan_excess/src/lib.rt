@@ -1,13 +1,13 @@
 //! Which memory, type or tag makes a module too large to be planned, for messages about modules that
 //! were refused.
 //!
-//! `translate_module` refuses input of 2^30 bytes or more and runtime data past 4294967295 bytes as
+//! `plan_of` refuses input of 2^30 bytes or more and runtime data past 4294967295 bytes as
 //! `TooLarge`, and an object or a context past 4294967295 bytes as `OffsetOverflow`. `locate_excess`
-//! takes the same bytes and options. It returns `None` only where neither is so; otherwise it says
+//! takes the same command and bytes. It returns `None` only where neither is so; otherwise it says
 //! what is too large first, and the entry of the section that declares it.
 //!
 //! ```
-//! if let Some(excess) = locate_excess(alloc, &tunables, collector, 8, 4096, 1_048_576, bytes)? {
+//! if let Some(excess) = locate_excess(alloc, &command, bytes)? {
 //!     println!(rt; "{excess}")?;
 //!     // memory section, entry 1: with the image of memory 1, the runtime data have more than
 //!     // 4294967295 bytes

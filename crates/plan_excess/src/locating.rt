@@ -6,56 +6,50 @@ ghost use Rattle.wasm_spec.specs.Module.{Module};
 ghost use Rattle.module_environ.specs.Readable.{IsReadable};
 ghost use Rattle.plan_text.specs.declared.error.TranslateError.{TranslateError};
 ghost use Rattle.translate.specs.Contexts.{Overflows};
-ghost use Rattle.translate.specs.Options.{Options, with_options, init_options};
+ghost use Rattle.translate.specs.Options.{options_of};
 ghost use Rattle.translate.specs.Planned.{HasCause, HasMuchData, KeepsAnd};
 ghost use Rattle.plan_excess.specs.Excess.{IsExcess, HasEntry, IsPlaced, entry_of};
 
 use crate::data::first_image;
 use crate::kinds::{Excess, ExcessKind};
 use crate::translated::first_large;
-use command_words::Collector;
+use command_words::Command;
 use entity_map::OutOfMemory;
 use form_reader::MAX_MODULE_SIZE;
 use plan_text::TranslateError;
 use rule_breaks::list_entry_place;
 use std::alloc::Global;
-use translate::{causes_law, translate_module};
-use wasm_types::Tunables;
+use translate::{causes_law, plan_of};
 
-/// What makes a module too large to be planned with these options, and where; none where it is not,
-/// whether it has a plan or not. The options are those of `translate_module`.
+/// What makes a module too large to be planned with a command's options, and where; none where it is
+/// not, whether it has a plan or not.
 ///
-/// Runtime data go first, as they do there, then objects, exceptions and the context.
+/// Runtime data go first, as in a plan, then objects, exceptions and the context.
 ///
 /// # Errors
 /// `OutOfMemory` where the plan, the translation or an entry finds no memory.
 pub fn locate_excess(
     alloc: Global,
-    tunables: &Tunables,
-    collector: Collector,
-    ptr: u8,
-    page_size: u64,
-    max_image: u64,
+    command: &Command,
     bytes: &[u8],
 ) -> Result<Option<Excess>, OutOfMemory>
-    requires pointer { (ptr ≡ 4) ⊎ (ptr ≡ 8) }
-    requires page_size { IsPowerOfTwo page_size }
-    ensures excess { IfOk result (λ e. IfSome e (IsExcess (with_options tunables.now collector ptr page_size max_image) bytes.now)) }
-    ensures none { let o = with_options tunables.now collector ptr page_size max_image in
+    requires pointer { (command.now.ptr ≡ 4) ⊎ (command.now.ptr ≡ 8) }
+    requires page_size { IsPowerOfTwo command.now.page_size }
+    ensures excess { IfOk result (λ e. IfSome e (IsExcess (options_of command.now) bytes.now)) }
+    ensures none { let o = options_of command.now in
         IfOk result (λ e. e ≡ None
         → (¬ HasCause o bytes.now TranslateError.TooLarge) × (¬ HasCause o bytes.now TranslateError.OffsetOverflow)) }
 {
-    let refused = refusal(alloc, tunables, collector, ptr, page_size, max_image, bytes);
-    let Some(error) = refused else {
+    let Some(error) = refusal(alloc, command, bytes) else {
         return Ok(None);
     };
     match error {
         TranslateError::TooLarge => {
-            let excess = excess_of_data(alloc, tunables, page_size, max_image, bytes)?;
+            let excess = excess_of_data(alloc, command, bytes)?;
             Ok(Some(excess))
         }
         TranslateError::OffsetOverflow => {
-            let excess = excess_of_sizes(alloc, tunables, collector, bytes)?;
+            let excess = excess_of_sizes(alloc, command, bytes)?;
             Ok(Some(excess))
         }
         TranslateError::OutOfMemory => Err(OutOfMemory),
@@ -64,24 +58,16 @@ pub fn locate_excess(
 }
 
 /// Why the bytes have no plan; none where they have one.
-fn refusal(
-    alloc: Global,
-    tunables: &Tunables,
-    collector: Collector,
-    ptr: u8,
-    page_size: u64,
-    max_image: u64,
-    bytes: &[u8],
-) -> Option<TranslateError>
-    requires pointer { (ptr ≡ 4) ⊎ (ptr ≡ 8) }
-    requires page_size { IsPowerOfTwo page_size }
-    ensures cause { IfSome result (HasCause (with_options tunables.now collector ptr page_size max_image) bytes.now) }
+fn refusal(alloc: Global, command: &Command, bytes: &[u8]) -> Option<TranslateError>
+    requires pointer { (command.now.ptr ≡ 4) ⊎ (command.now.ptr ≡ 8) }
+    requires page_size { IsPowerOfTwo command.now.page_size }
+    ensures cause { IfSome result (HasCause (options_of command.now) bytes.now) }
     ensures too_long { 2 ^ 30 ≤ length bytes.now → result ≡ Some TranslateError.TooLarge }
     ensures none { result ≡ None → (e : TranslateError)
-        → HasCause (with_options tunables.now collector ptr page_size max_image) bytes.now e → e ≡ TranslateError.OutOfMemory }
+        → HasCause (options_of command.now) bytes.now e → e ≡ TranslateError.OutOfMemory }
 {
     causes_law();
-    match translate_module(alloc, tunables, collector, ptr, page_size, max_image, bytes) {
+    match plan_of(alloc, command, bytes) {
         Ok(plan) => {
             // Dropped by one call, not field by field.
             drop(plan);
@@ -92,16 +78,10 @@ fn refusal(
 }
 
 /// What is too large where the input or the runtime data are.
-fn excess_of_data(
-    alloc: Global,
-    tunables: &Tunables,
-    page_size: u64,
-    max_image: u64,
-    bytes: &[u8],
-) -> Result<Excess, OutOfMemory>
-    requires page_size { IsPowerOfTwo page_size }
-    requires cause { (2 ^ 30 ≤ length bytes.now) ⊎ KeepsAnd bytes.now (HasMuchData (init_options tunables.now page_size max_image)) }
-    ensures { (o : Options) → o.init ≡ init_options tunables.now page_size max_image → IfOk result (IsExcess o bytes.now) }
+fn excess_of_data(alloc: Global, command: &Command, bytes: &[u8]) -> Result<Excess, OutOfMemory>
+    requires page_size { IsPowerOfTwo command.now.page_size }
+    requires cause { (2 ^ 30 ≤ length bytes.now) ⊎ KeepsAnd bytes.now (HasMuchData (options_of command.now).init) }
+    ensures { IfOk result (IsExcess (options_of command.now) bytes.now) }
 {
     if bytes.len() >= MAX_MODULE_SIZE {
         return Ok(Excess {
@@ -109,20 +89,22 @@ fn excess_of_data(
             place: None,
         });
     }
-    let memory = first_image(alloc, tunables, page_size, max_image, bytes)?;
+    let memory = first_image(
+        alloc,
+        &command.tunables,
+        command.page_size,
+        command.max_image,
+        bytes,
+    )?;
     placed(alloc, bytes, ExcessKind::Image { memory })
 }
 
 /// What is too large where an object, an exception or the context is.
-fn excess_of_sizes(
-    alloc: Global,
-    tunables: &Tunables,
-    collector: Collector,
-    bytes: &[u8],
-) -> Result<Excess, OutOfMemory>
-    ensures { (o : Options) → o.collector ≡ collector → KeepsAnd bytes.now (Overflows o) → IfOk result (IsExcess o bytes.now) }
+fn excess_of_sizes(alloc: Global, command: &Command, bytes: &[u8]) -> Result<Excess, OutOfMemory>
+    requires { KeepsAnd bytes.now (Overflows (options_of command.now)) }
+    ensures { IfOk result (IsExcess (options_of command.now) bytes.now) }
 {
-    match first_large(alloc, tunables, collector, bytes)? {
+    match first_large(alloc, &command.tunables, command.collector, bytes)? {
         Some(kind) => placed(alloc, bytes, kind),
         None => Ok(Excess {
             kind: ExcessKind::Context,

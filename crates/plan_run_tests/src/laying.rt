@@ -5,7 +5,7 @@ ghost use Rattle.plan_run.specs.Finished.{Finished};
 ghost use Rattle.plan_run.specs.Values.{IsPlain};
 
 use crate::row::{Picture, Row};
-use command_words::Collector;
+use command_words::Command;
 use entity_map::OutOfMemory;
 use init_plan::{ModuleTranslation, RuntimeBytes};
 use paged_memory::PagedMemory;
@@ -14,7 +14,7 @@ use plan_text::Plan;
 use run_laws::translated_is_finished;
 use std::alloc::Global;
 use std::test::Fail;
-use translate::translate_module;
+use translate::plan_of;
 use wasm_types::Tunables;
 
 const HEADER: [u8; 8] = [0x00, 0x61, 0x73, 0x6D, 0x01, 0x00, 0x00, 0x00];
@@ -205,27 +205,17 @@ pub(crate) fn picture(alloc: Global, row: &Row) -> Result<Option<Picture>, Fail>
     // Each plan can be run; this does nothing when it is run.
     translated_is_finished();
     let imports = given(alloc, row)?;
-    let tunables = Tunables {
-        debug_native: false,
-        debug_guest: false,
-        parse_wasm_debuginfo: false,
-        branch_hinting: false,
-        memory_init_cow: row.images,
-        table_lazy_init: row.lazy,
-        signals_based_traps: false,
+    let command = Command {
+        tunables: Tunables {
+            memory_init_cow: row.images,
+            table_lazy_init: row.lazy,
+            ..Command::PLAIN.tunables
+        },
+        ..Command::PLAIN
     };
     let mut bytes = Vec::from_slice(alloc, &HEADER)?;
     bytes.extend_from_slice(row.sections)?;
-    let page_size = 4096u64.next_power_of_two();
-    let plan = translate_module(
-        alloc,
-        &tunables,
-        Collector::Drc,
-        8,
-        page_size,
-        1_048_576,
-        &bytes,
-    )?;
+    let plan = plan_of(alloc, &command, &bytes)?;
     let seen = laid_of(alloc, row, &plan, imports);
     drop(plan);
     seen

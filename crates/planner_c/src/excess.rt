@@ -53,16 +53,7 @@ pub extern "C" fn bobbinazure_locate_excess<'d>(
     let Some(command) = command_of(options) else {
         return u32::from(USAGE);
     };
-    let found = locate_excess(
-        alloc,
-        &command.tunables,
-        command.collector,
-        command.ptr,
-        command.page_size,
-        command.max_image,
-        bytes,
-    );
-    match found {
+    match locate_excess(alloc, &command, bytes) {
         Ok(None) => u32::from(SUCCESS),
         Ok(Some(excess)) => tell_excess(alloc, &excess, out),
         Err(OutOfMemory) => u32::from(NO_MEMORY),

@@ -11,14 +11,13 @@ ghost use Rattle.planner_c.specs.Links.{mismatch_number, answer_row, answer_told
 
 use crate::links::{ImportAnswerRecord, LinkRecord};
 use crate::options::{PlanOptions, command_of};
-use crate::planning::planned;
 use crate::refusals::refusal_numbers;
 use entity_map::OutOfMemory;
 use import_match::Mismatch;
 use plan_link::{ImportAnswer, link_plans, mismatch_line};
 use plan_text::{Plan, TranslateError};
 use std::alloc::Global;
-use translate::{NO_MEMORY, REFUSED, SUCCESS, USAGE, refusal_line};
+use translate::{NO_MEMORY, REFUSED, SUCCESS, USAGE, plan_of, refusal_line};
 
 /// Plans two modules, and puts into the record what each import of the second is given by the
 /// exports of the first, which are defined under the name `as_module`: `bobbinazure_link`.
@@ -53,8 +52,8 @@ pub extern "C" fn bobbinazure_link<'d>(
     let Ok(as_module) = std::str::from_utf8(as_module) else {
         return u32::from(USAGE);
     };
-    match planned(alloc, &command, exporter) {
-        Ok(first) => match planned(alloc, &command, importer) {
+    match plan_of(alloc, &command, exporter) {
+        Ok(first) => match plan_of(alloc, &command, importer) {
             Ok(second) => tell_links(alloc, &first, as_module, &second, out),
             Err(refusal) => tell_refusal_of(2, &refusal, out),
         },

@@ -17,9 +17,7 @@ use crate::text::TextRecord;
 use plan_tables::{PlanRecord, fill_record};
 use plan_text::{Plan, TranslateError};
 use std::alloc::Global;
-use translate::{
-    Command, NO_MEMORY, REFUSED, SUCCESS, USAGE, plan_text, refusal_line, translate_module,
-};
+use translate::{Command, NO_MEMORY, REFUSED, SUCCESS, USAGE, plan_of, plan_text, refusal_line};
 
 /// Plans the module that the bytes spell, and puts the plan into the record:
 /// `bobbinazure_make_plan`.
@@ -46,7 +44,7 @@ pub extern "C" fn bobbinazure_make_plan<'d>(
     let Some(command) = command_of(options) else {
         return u32::from(USAGE);
     };
-    match planned(alloc, &command, bytes) {
+    match plan_of(alloc, &command, bytes) {
         Ok(mut plan) => match fill_record(alloc, &mut plan, out) {
             Ok(()) => u32::from(SUCCESS),
             Err(_) => u32::from(NO_MEMORY),
@@ -135,29 +133,6 @@ pub extern "C" fn bobbinazure_make_plan_and_text<'d>(
     }
 }
 
-/// The plan of the bytes.
-pub(crate) fn planned<'d>(
-    alloc: Global,
-    command: &Command,
-    bytes: &'d [u8],
-) -> Result<Plan<'d>, TranslateError>
-    requires { IsUsable command.now }
-    ensures planned { IfOk result (IsPlanned (options_of command.now) bytes.now) }
-    ensures printable { IfOk result (λ plan. IsPrintable plan.translation) }
-    ensures cause { IfErr result (HasCause (options_of command.now) bytes.now) }
-    ensures complete { IsValid (options_of command.now) bytes.now → SucceedsOrNoMemory result }
-{
-    translate_module(
-        alloc,
-        &command.tunables,
-        command.collector,
-        command.ptr,
-        command.page_size,
-        command.max_image,
-        bytes,
-    )
-}
-
 /// The plan of the bytes and its complete text.
 fn texted<'d>(
     alloc: Global,
@@ -171,7 +146,7 @@ fn texted<'d>(
     ensures cause { IfErr result (HasCause (options_of command.now) bytes.now) }
     ensures complete { IsValid (options_of command.now) bytes.now → SucceedsOrNoMemory result }
 {
-    let plan = planned(alloc, command, bytes)?;
+    let plan = plan_of(alloc, command, bytes)?;
     match plan_text(alloc, &plan) {
         Ok(text) => Ok((plan, text)),
         Err(_) => Err(TranslateError::OutOfMemory),

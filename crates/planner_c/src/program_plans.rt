@@ -9,13 +9,12 @@ ghost use Rattle.translate.specs.Valid.{IsValid};
 ghost use Rattle.planner_c.specs.Members.{HasThisPlan, IsNamedAs, AddsPlan, IsFirstRefused};
 ghost use Rattle.planner_c.specs.Programs.{HasName};
 
-use crate::planning::planned;
 use crate::programs::NamedModule;
 use entity_map::OutOfMemory;
 use plan_link::ProgramModule;
 use plan_text::{Plan, TranslateError};
 use std::alloc::Global;
-use translate::Command;
+use translate::{Command, plan_of};
 
 /// Why the first module that is refused is refused, and which one it is.
 #[derive(Drop)]
@@ -76,7 +75,7 @@ fn push_plan<'d>(
     ensures cause { IfErr result (HasCause (options_of command.now) bytes.now) }
     ensures complete { IfErr result (λ why. IsValid (options_of command.now) bytes.now → why ≡ TranslateError.OutOfMemory) }
 {
-    let plan = planned(alloc, command, bytes)?;
+    let plan = plan_of(alloc, command, bytes)?;
     let Ok(()) = plans.push(plan) else {
         return Err(TranslateError::OutOfMemory);
     };

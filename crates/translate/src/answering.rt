@@ -12,7 +12,7 @@ ghost use Rattle.translate.specs.Runs.{IsSuccess, IsRefusal, IsCutShort, HasEnou
 
 use crate::running::{Report, empty_report};
 use crate::status::{NO_MEMORY, REFUSED, SUCCESS, WRITE_FAILED};
-use crate::translating::translate_module;
+use crate::translating::plan_of;
 use command_words::Command;
 use devices::{Sink, write_all};
 use entity_map::OutOfMemory;
@@ -75,15 +75,7 @@ fn planned_text<'d>(
     ensures too_long { 2 ^ 30 ≤ length bytes.now → result ≡ Err TranslateError.TooLarge }
     ensures complete { IsValid (options_of command.now) bytes.now → SucceedsOrNoMemory result }
 {
-    let plan = translate_module(
-        alloc,
-        &command.tunables,
-        command.collector,
-        command.ptr,
-        command.page_size,
-        command.max_image,
-        bytes,
-    )?;
+    let plan = plan_of(alloc, command, bytes)?;
     match text_of(alloc, command, bytes.len() as u64, &plan) {
         Ok(text) => Ok((plan, text)),
         Err(_) => Err(TranslateError::OutOfMemory),

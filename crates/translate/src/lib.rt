@@ -36,6 +36,6 @@ pub use module_generator::generate;
 pub use plan_text::{Plan, TranslateError, plan_text, refusal_line, summary_text};
 pub use running::{Report, run};
 pub use status::{NO_MEMORY, READ_FAILED, REFUSED, SUCCESS, USAGE, WRITE_FAILED};
-pub use translating::translate_module;
+pub use translating::{plan_of, translate_module};
 pub use wasm_types::Tunables;
 pub use worked::worked_plan;

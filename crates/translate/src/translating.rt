@@ -4,13 +4,13 @@ ghost use Rattle.std.specs.Prelude.{◌≡◌, ◌⊎◌, ◌^◌, ◌≤◌, le
 ghost use Rattle.std.specs.Int.{IsPowerOfTwo};
 ghost use Rattle.plan_text.specs.PlanText.{IsPrintable};
 ghost use Rattle.translate.specs.Costs.{CostsAtMost};
-ghost use Rattle.translate.specs.Options.{with_options, init_options};
+ghost use Rattle.translate.specs.Options.{with_options, init_options, options_of};
 ghost use Rattle.translate.specs.Valid.{IsValid};
 ghost use Rattle.translate.specs.Planned.{IsPlanned, HasCause, SucceedsOrNoMemory};
 
 use crate::initialising::planned_translation;
 use crate::layouts::layouts_for;
-use command_words::Collector;
+use command_words::{Collector, Command};
 use form_types::Validator;
 use module_types::ModuleTypesBuilder;
 use plan_text::{Plan, TranslateError};
@@ -78,4 +78,33 @@ pub fn translate_module<'d>(
             Err(error.into())
         }
     }
+}
+
+/// The plan of the module that the bytes spell, with the options of a command.
+///
+/// # Errors
+/// Those of `translate_module`.
+pub fn plan_of<'d>(
+    alloc: Global,
+    command: &Command,
+    bytes: &'d [u8],
+) -> Result<Plan<'d>, TranslateError>
+    requires pointer { (command.now.ptr ≡ 4) ⊎ (command.now.ptr ≡ 8) }
+    requires page_size { IsPowerOfTwo command.now.page_size }
+    ensures planned { IfOk result (IsPlanned (options_of command.now) bytes.now) }
+    ensures printable { IfOk result (λ plan. IsPrintable plan.translation) }
+    ensures costs { IfOk result (CostsAtMost (options_of command.now).init bytes.now) }
+    ensures cause { IfErr result (HasCause (options_of command.now) bytes.now) }
+    ensures too_long { 2 ^ 30 ≤ length bytes.now → result ≡ Err TranslateError.TooLarge }
+    ensures complete { IsValid (options_of command.now) bytes.now → SucceedsOrNoMemory result }
+{
+    translate_module(
+        alloc,
+        &command.tunables,
+        command.collector,
+        command.ptr,
+        command.page_size,
+        command.max_image,
+        bytes,
+    )
 }

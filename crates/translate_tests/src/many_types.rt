@@ -1,11 +1,9 @@
 //! A plan of a hundred thousand types.
 
-use command_words::Collector;
 use entity_map::EntityRef;
 use std::alloc::{AllocError, Global};
 use std::test::Fail;
-use translate::{summary_text, translate_module};
-use wasm_types::Tunables;
+use translate::{Command, plan_of, summary_text};
 
 const COUNT: u32 = 100_000;
 
@@ -13,17 +11,6 @@ const COUNT: u32 = 100_000;
 const HEAD: [u8; 16] = [
     0x00, 0x61, 0x73, 0x6D, 0x01, 0x00, 0x00, 0x00, 0x01, 0xE3, 0xF7, 0x98, 0x03, 0xA0, 0x8D, 0x06,
 ];
-
-/// No switch is on.
-const PLAIN: Tunables = Tunables {
-    debug_native: false,
-    debug_guest: false,
-    parse_wasm_debuginfo: false,
-    branch_hinting: false,
-    memory_init_cow: false,
-    table_lazy_init: false,
-    signals_based_traps: false,
-};
 
 /// A function type of 64 parameters, the last 17 of which give its number: an i64 for each binary
 /// digit 1, the lowest first, an i32 for 0.
@@ -64,16 +51,7 @@ struct PlanNumbers {
 /// The numbers of the plan, and its summary.
 fn look_at_plan(alloc: Global) -> Result<(PlanNumbers, Vec<u8>), Fail> {
     let bytes = many_types(alloc)?;
-    let page_size = 4096u64.next_power_of_two();
-    let plan = translate_module(
-        alloc,
-        &PLAIN,
-        Collector::Drc,
-        8,
-        page_size,
-        1_048_576,
-        &bytes,
-    )?;
+    let plan = plan_of(alloc, &Command::PLAIN, &bytes)?;
     let mut last = None;
     for (place, index) in plan.translation.module.types.values().enumerate() {
         if place == 99_999 {

@@ -1,17 +1,13 @@
 //! The facts of a translated memory that a compiler needs.
 
+use command_words::Command;
 use wasm_types::{IndexType, Limits, Memory, MemoryTunables, Tunables, WasmValType};
 
 #[test]
 fn reserved_bytes_decide_on_moves_and_checks(rt: HostRuntime) {
     let tunables = Tunables {
-        debug_native: false,
-        debug_guest: false,
-        parse_wasm_debuginfo: false,
-        branch_hinting: false,
-        memory_init_cow: false,
-        table_lazy_init: false,
         signals_based_traps: true,
+        ..Command::PLAIN.tunables
     };
     let memory = Memory {
         idx_type: IndexType::I32,

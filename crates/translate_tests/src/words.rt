@@ -31,11 +31,10 @@ fn each_option_is_read(rt: HostRuntime) -> Result<(), Fail> {
         tunables: Tunables {
             debug_native: true,
             debug_guest: true,
-            parse_wasm_debuginfo: false,
             branch_hinting: true,
             memory_init_cow: true,
             table_lazy_init: true,
-            signals_based_traps: false,
+            ..Command::PLAIN.tunables
         },
         page_size: 1,
         max_image: 0,

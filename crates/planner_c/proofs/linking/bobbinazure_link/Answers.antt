@@ -7,49 +7,49 @@ pub tell_links-requires-clause-first : goal.tell_links-requires-clause-first
 tell_links-requires-clause-first c = record {
   options = options_of c.in-Some.command;
   bytes = c.args.exporter.now;
-  planned = c.in-Ok-planned.ensures.planned;
+  planned = c.in-Ok-plan_of.ensures.planned;
 }
 
 pub tell_links-requires-clause-second : goal.tell_links-requires-clause-second
 tell_links-requires-clause-second c = record {
   options = options_of c.in-Some.command;
   bytes = c.args.importer.now;
-  planned = c.in-Ok-planned-2.ensures.planned;
+  planned = c.in-Ok-plan_of-2.ensures.planned;
 }
 
 -- both are planned
 
-pub returns-in-Ok-planned-2-clause-statuses : goal.returns-in-Ok-planned-2-clause-statuses
-returns-in-Ok-planned-2-clause-statuses c = elim c.tell_links.ensures.statuses [ inl success ↦ inl success | inr memory ↦ inr (inr (inr memory)) ]
+pub returns-in-Ok-plan_of-2-clause-statuses : goal.returns-in-Ok-plan_of-2-clause-statuses
+returns-in-Ok-plan_of-2-clause-statuses c = elim c.tell_links.ensures.statuses [ inl success ↦ inl success | inr memory ↦ inr (inr (inr memory)) ]
 
-pub returns-in-Ok-planned-2-clause-planned : goal.returns-in-Ok-planned-2-clause-planned
-returns-in-Ok-planned-2-clause-planned c = λ success.
+pub returns-in-Ok-plan_of-2-clause-planned : goal.returns-in-Ok-plan_of-2-clause-planned
+returns-in-Ok-plan_of-2-clause-planned c = λ success.
     both-planned c.args.options.now c.in-Some.command c.in-Some.ensures.command c.args.exporter.now c.args.importer.now c.tell_links.new.out
-    c.args.as_module.now c.in-Ok.as_module.now c.in-Ok-planned.first c.in-Ok-planned-2.second c.in-Ok.ensures.cases.0
-    c.in-Ok-planned.ensures.planned c.in-Ok-planned-2.ensures.planned (c.tell_links.ensures.told success)
+    c.args.as_module.now c.in-Ok.as_module.now c.in-Ok-plan_of.first c.in-Ok-plan_of-2.second c.in-Ok.ensures.cases.0
+    c.in-Ok-plan_of.ensures.planned c.in-Ok-plan_of-2.ensures.planned (c.tell_links.ensures.told success)
 
-pub returns-in-Ok-planned-2-clause-usage : goal.returns-in-Ok-planned-2-clause-usage
-returns-in-Ok-planned-2-clause-usage c = (
+pub returns-in-Ok-plan_of-2-clause-usage : goal.returns-in-Ok-plan_of-2-clause-usage
+returns-in-Ok-plan_of-2-clause-usage c = (
   λ usage. elim c.tell_links.ensures.statuses [ inl success ↦ absurd (omega (arith, usage, success)) | inr memory ↦ absurd (omega (arith, usage, memory)) ],
   λ wrong. absurd (wrong (c.command_of.ensures.right (ap is_some c.in-Some.is), c.in-Ok.ensures.cases.1)),
 )
 
 -- the second is refused
 
-pub returns-in-Ok-planned-clause-usage : goal.returns-in-Ok-planned-clause-usage
-returns-in-Ok-planned-clause-usage c = (
+pub returns-in-Ok-plan_of-clause-usage : goal.returns-in-Ok-plan_of-clause-usage
+returns-in-Ok-plan_of-clause-usage c = (
   λ usage. elim c.tell_refusal_of.ensures.statuses [ inl told ↦ absurd (omega (arith, usage, told)) | inr memory ↦ absurd (omega (arith, usage, memory)) ],
   λ wrong. absurd (wrong (c.command_of.ensures.right (ap is_some c.in-Some.is), c.in-Ok.ensures.cases.1)),
 )
 
-pub returns-in-Ok-planned-clause-planned : goal.returns-in-Ok-planned-clause-planned
-returns-in-Ok-planned-clause-planned c = λ success.
+pub returns-in-Ok-plan_of-clause-planned : goal.returns-in-Ok-plan_of-clause-planned
+returns-in-Ok-plan_of-clause-planned c = λ success.
     elim c.tell_refusal_of.ensures.statuses [ inl told ↦ absurd (omega (arith, success, told)) | inr memory ↦ absurd (omega (arith, success, memory)) ]
 
-pub returns-in-Ok-planned-clause-refused : goal.returns-in-Ok-planned-clause-refused
-returns-in-Ok-planned-clause-refused c = λ told.
+pub returns-in-Ok-plan_of-clause-refused : goal.returns-in-Ok-plan_of-clause-refused
+returns-in-Ok-plan_of-clause-refused c = λ told.
     second-refused c.args.options.now c.in-Some.command c.in-Some.ensures.command c.args.exporter.now c.args.importer.now c.tell_refusal_of.new.out
-    c.in-Ok-planned.first c.in-Err-planned.refusal c.in-Ok-planned.ensures.planned c.in-Err-planned.ensures.cause (c.tell_refusal_of.ensures.told told)
+    c.in-Ok-plan_of.first c.in-Err-plan_of.refusal c.in-Ok-plan_of.ensures.planned c.in-Err-plan_of.ensures.cause (c.tell_refusal_of.ensures.told told)
 
 -- the first is refused
 
