@@ -9,4 +9,5 @@ pub mod Held
 pub mod Matching
 pub mod FunctionTypes
 pub mod Worked
+pub mod Lines
 pub mod ModuleTypes

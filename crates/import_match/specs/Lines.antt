@@ -1,4 +1,4 @@
--- The text of each rule of matching, as its error displays it.
+-- The text of each rule of matching.
 use Rattle.std.specs.Prelude.{ℕ, List, codes}
 use Rattle.import_match.specs.declared.error.Mismatch.{Mismatch}
 use Rattle.import_match.specs.declared.error.Mismatch.TheVariants as rule

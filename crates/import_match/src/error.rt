@@ -8,49 +8,35 @@ use thiserror::Error;
 
 /// The rule of matching that a definition breaks: one variant a rule, in the order in which the
 /// rules are checked (core specification, 3.3, external types).
-#[derive(Clone, Copy, Debug, Drop, PartialEq, Eq, Error)]
+#[derive(Clone, Copy, Debug, Drop, PartialEq, Eq)]
 pub enum Mismatch {
     /// A definition of another kind.
-    #[error("the kinds differ")]
     Kind,
     /// A function of another type.
-    #[error("the function types differ")]
     FuncType,
     /// A table of other elements.
-    #[error("the element types of the tables differ")]
     TableElement,
     /// A table with indices of another type.
-    #[error("the index types of the tables differ")]
     TableIndexType,
     /// A table that may be smaller than the required least size.
-    #[error("the table is too small")]
     TableMin,
     /// A table that may grow past the greatest allowed size.
-    #[error("the table may grow too large")]
     TableMax,
     /// A memory with indices of another type.
-    #[error("the index types of the memories differ")]
     MemoryIndexType,
     /// One of the memories is shared, the other not.
-    #[error("one memory is shared, the other is not")]
     MemoryShared,
     /// A memory with pages of another size.
-    #[error("the page sizes differ")]
     MemoryPage,
     /// A memory that may be smaller than the required least size.
-    #[error("the memory is too small")]
     MemoryMin,
     /// A memory that may grow past the greatest allowed size.
-    #[error("the memory may grow too large")]
     MemoryMax,
     /// One of the globals can be written, the other not.
-    #[error("one global can be written, the other cannot")]
     GlobalMutability,
     /// A global of another value type.
-    #[error("the value types of the globals differ")]
     GlobalType,
     /// A tag of another function type.
-    #[error("the types of the tags differ")]
     TagType,
 }
 

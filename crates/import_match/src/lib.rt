@@ -24,6 +24,7 @@ mod error;
 mod exports;
 mod imports;
 mod laws;
+mod lines;
 mod linker;
 mod names;
 mod rules;
@@ -31,6 +32,7 @@ mod worked;
 
 pub use error::{ImportRefused, LinkError, Mismatch};
 pub use laws::{definition_law, function_law, matching_law, named_types_law};
+pub use lines::mismatch_line;
 pub use linker::Linker;
 pub use rules::match_entity;
 pub use worked::{worked_imports, worked_memories};

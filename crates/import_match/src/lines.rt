@@ -1,11 +1,13 @@
 //! The text of a rule of matching.
 
-ghost use Rattle.std.specs.Prelude.{◌≡◌};
-ghost use Rattle.plan_link.specs.Lines.{text_of_mismatch};
+ghost use Rattle.std.specs.Prelude.{◌≡◌, Some};
+ghost use Rattle.import_match.specs.Lines.{text_of_mismatch};
 
-use import_match::Mismatch;
+use crate::error::Mismatch;
+use std::error::Error;
+use std::fmt;
 
-/// The text of a rule, as its error displays it, in memory that nobody frees.
+/// The text of a rule, in memory that nobody frees.
 pub fn mismatch_line(rule: Mismatch) -> &'static str
     ensures { result.now ≡ text_of_mismatch rule }
 {
@@ -26,3 +28,13 @@ pub fn mismatch_line(rule: Mismatch) -> &'static str
         Mismatch::TagType => "the types of the tags differ",
     }
 }
+
+impl fmt::Display for Mismatch {
+    ghost output = { λ rule. Some (text_of_mismatch rule) };
+
+    fn fmt<W: fmt::Write>(&self, f: &mut fmt::Formatter<W>) -> fmt::Result {
+        f.write_str(mismatch_line(*self))
+    }
+}
+
+impl Error for Mismatch {}

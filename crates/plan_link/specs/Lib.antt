@@ -1,5 +1,4 @@
 pub mod Answers
-pub mod Lines
 pub mod Linkable
 pub mod Linked
 pub mod Program

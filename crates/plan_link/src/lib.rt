@@ -24,7 +24,6 @@
 mod answer;
 mod answering;
 mod laws;
-mod lines;
 mod linking;
 mod program;
 mod program_error;
@@ -33,8 +32,8 @@ mod program_types;
 mod registering;
 
 pub use answer::ImportAnswer;
+pub use import_match::mismatch_line;
 pub use laws::{given_law, planned_can_link, translated_can_link};
-pub use lines::mismatch_line;
 pub use linking::link_plans;
 pub use program::{LinkedModule, ProgramModule, link_program};
 pub use program_error::ProgramError;

@@ -7,7 +7,7 @@ use Rattle.import_match.specs.declared.error.Mismatch.{Mismatch}
 use Rattle.import_match.specs.declared.error.Mismatch.TheVariants as rule
 use Rattle.plan_link.specs.declared.answer.ImportAnswer.{ImportAnswer}
 use Rattle.plan_link.specs.declared.answer.ImportAnswer.TheVariants as answer
-use Rattle.plan_link.specs.Lines.{text_of_mismatch}
+use Rattle.import_match.specs.Lines.{text_of_mismatch}
 use Rattle.plan_link.specs.Linked.{IsLinked}
 use Rattle.planner_c.specs.declared.links.ImportAnswerRecord.{ImportAnswerRecord}
 use Rattle.planner_c.specs.declared.links.LinkRecord.{LinkRecord}

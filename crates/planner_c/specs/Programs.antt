@@ -13,7 +13,7 @@ use Rattle.plan_link.specs.declared.program.LinkedModule.{LinkedModule}
 use Rattle.plan_link.specs.declared.program.ProgramModule.{ProgramModule}
 use Rattle.plan_link.specs.declared.program_error.ProgramError.{ProgramError}
 use Rattle.plan_link.specs.declared.program_error.ProgramError.TheVariants as error
-use Rattle.plan_link.specs.Lines.{text_of_mismatch}
+use Rattle.import_match.specs.Lines.{text_of_mismatch}
 use Rattle.plan_link.specs.Program.{IsProgram, ShareIndices, IsDuplicate, IsCrowded, count_types, capacity}
 use Rattle.planner_c.specs.declared.options.PlanOptions.{PlanOptions}
 use Rattle.planner_c.specs.declared.programs.LinkedModuleRecord.{LinkedModuleRecord}
