@@ -8,6 +8,7 @@ pub mod ModuleLines
 pub mod NameLines
 pub mod Numbers
 pub mod Quoted
+pub mod Room
 pub mod SegmentLines
 pub mod TableLines
 pub mod TypeLines

@@ -3,9 +3,16 @@
 ghost use Rattle.std.specs.Prelude.{◌≡◌, ◌+◌, ◌*◌, ◌/◌, ◌%◌, ◌<◌, ◌≤◌, ◌++◌, ◌∷◌, [], ℕ, length, take, codes, decimal};
 ghost use Rattle.std.specs.Fmt.{signed_decimal};
 ghost use Rattle.wasm_types.specs.Texts.{spaced};
+ghost use Rattle.plan_lines.specs.Room.{Puts};
 
 use crate::room::{put, put_byte};
 use itoa::Buffer;
+
+/// The most bytes of a number.
+pub(crate) const MOST_NUMBER: usize = 20;
+
+/// The most bytes of a number and of a space or a sign before it.
+pub(crate) const MOST_SPACED: usize = 1 + MOST_NUMBER;
 
 // The two digits of each number below 100.
 static PAIRS: [u8; 200] = *b"\
@@ -35,8 +42,7 @@ fn put_pair(room: &mut [u8], used: usize, pair: u64) -> usize
 #[inline(always)]
 fn put_below_hundred(room: &mut [u8], used: usize, number: u64) -> usize
     requires { (number < 100) × (used + 2 ≤ length room.old) }
-    ensures written { take result room.new ≡ take used room.old ++ decimal number }
-    ensures end { (used ≤ result) × (result ≤ used + 2) }
+    ensures { Puts 2 (decimal number) room.old used room.new result }
 {
     if number < 10 {
         return put_byte(room, used, b'0' + number as u8);
@@ -48,8 +54,7 @@ fn put_below_hundred(room: &mut [u8], used: usize, number: u64) -> usize
 #[inline(always)]
 fn put_short(room: &mut [u8], used: usize, number: u64) -> usize
     requires { (number < 10000) × (used + 4 ≤ length room.old) }
-    ensures written { take result room.new ≡ take used room.old ++ decimal number }
-    ensures end { (used ≤ result) × (result ≤ used + 4) }
+    ensures { Puts 4 (decimal number) room.old used room.new result }
 {
     if number < 100 {
         return put_below_hundred(room, used, number);
@@ -60,9 +65,8 @@ fn put_short(room: &mut [u8], used: usize, number: u64) -> usize
 
 // Writes a number of more than four digits.
 fn put_long(room: &mut [u8], used: usize, number: u64) -> usize
-    requires { (10000 ≤ number) × (used + 20 ≤ length room.old) }
-    ensures written { take result room.new ≡ take used room.old ++ decimal number }
-    ensures end { (used ≤ result) × (result ≤ used + 20) }
+    requires { (10000 ≤ number) × (used + MOST_NUMBER ≤ length room.old) }
+    ensures { Puts MOST_NUMBER (decimal number) room.old used room.new result }
 {
     if number >= 100_000_000 {
         return put(room, used, Buffer::new().format(number).as_bytes());
@@ -72,12 +76,11 @@ fn put_long(room: &mut [u8], used: usize, number: u64) -> usize
     put_pair(room, middle, number % 100)
 }
 
-// Writes a number, which has at most twenty digits.
+// Writes a number.
 #[inline(always)]
 pub(crate) fn put_number(room: &mut [u8], used: usize, number: u64) -> usize
-    requires { used + 20 ≤ length room.old }
-    ensures written { take result room.new ≡ take used room.old ++ decimal number }
-    ensures end { (used ≤ result) × (result ≤ used + 20) }
+    requires { used + MOST_NUMBER ≤ length room.old }
+    ensures { Puts MOST_NUMBER (decimal number) room.old used room.new result }
 {
     if number < 10_000 {
         return put_short(room, used, number);
@@ -88,9 +91,8 @@ pub(crate) fn put_number(room: &mut [u8], used: usize, number: u64) -> usize
 // Writes a space and a number.
 #[inline(always)]
 pub(crate) fn put_spaced(room: &mut [u8], used: usize, number: u64) -> usize
-    requires { used + 21 ≤ length room.old }
-    ensures written { take result room.new ≡ take used room.old ++ codes " " ++ decimal number }
-    ensures end { (used ≤ result) × (result ≤ used + 21) }
+    requires { used + MOST_SPACED ≤ length room.old }
+    ensures { Puts MOST_SPACED (codes " " ++ decimal number) room.old used room.new result }
 {
     let first = put_byte(room, used, b' ');
     put_number(room, first, number)
@@ -99,9 +101,8 @@ pub(crate) fn put_spaced(room: &mut [u8], used: usize, number: u64) -> usize
 // Writes numbers, a space before each.
 #[inline(always)]
 pub(crate) fn put_numbers(room: &mut [u8], used: usize, numbers: &[u64]) -> usize
-    requires { used + 21 * length numbers.now ≤ length room.old }
-    ensures written { take result room.new ≡ take used room.old ++ spaced decimal numbers.now }
-    ensures end { (used ≤ result) × (result ≤ used + 21 * length numbers.now) }
+    requires { used + MOST_SPACED * length numbers.now ≤ length room.old }
+    ensures { Puts (MOST_SPACED * length numbers.now) (spaced decimal numbers.now) room.old used room.new result }
 {
     let mut end = used;
     for number in numbers {
@@ -113,9 +114,8 @@ pub(crate) fn put_numbers(room: &mut [u8], used: usize, numbers: &[u64]) -> usiz
 // Writes a number with its sign, if it is below 0.
 #[inline(always)]
 pub(crate) fn put_signed(room: &mut [u8], used: usize, number: i64) -> usize
-    requires { used + 21 ≤ length room.old }
-    ensures written { take result room.new ≡ take used room.old ++ signed_decimal number }
-    ensures end { (used ≤ result) × (result ≤ used + 21) }
+    requires { used + MOST_SPACED ≤ length room.old }
+    ensures { Puts MOST_SPACED (signed_decimal number) room.old used room.new result }
 {
     if number >= 0 {
         return put_number(room, used, number.unsigned_abs());

@@ -4,9 +4,10 @@ ghost use Rattle.std.specs.Prelude.{◌≡◌, ◌++◌, ◌≤◌, OnOk, codes,
 ghost use Rattle.std.specs.Fmt.{signed_decimal};
 ghost use Rattle.wasm_types.specs.Texts.{heap_text};
 ghost use Rattle.plan_lines.specs.Expressions.{hexadecimal, operands_text, operator_text, expression_text};
+ghost use Rattle.plan_lines.specs.Numbers.{named_number};
 
-use crate::digits::{put_signed, put_spaced};
-use crate::numbers::append_number;
+use crate::digits::{MOST_SPACED, put_signed, put_spaced};
+use crate::numbers::{append_named, append_number};
 use crate::reference_words::append_heap;
 use crate::room::{make_room, put, put_byte};
 use crate::text::Text;
@@ -19,7 +20,7 @@ use wasm_types::WasmHeapType;
 fn append_operand(text: &mut Text, name: &str, number: u32) -> Result<(), OutOfMemory>
     ensures { OnOk result (text.new ≡ text.old ++ name.now ++ codes " " ++ decimal number) }
 {
-    make_room(&mut text.room, text.used, name.len() + 21)?;
+    make_room(&mut text.room, text.used, name.len() + MOST_SPACED)?;
     let end = put(&mut text.room, text.used, name.as_bytes());
     text.used = put_spaced(&mut text.room, end, number.into());
     Ok(())
@@ -30,7 +31,7 @@ fn append_operand(text: &mut Text, name: &str, number: u32) -> Result<(), OutOfM
 fn append_signed(text: &mut Text, name: &str, number: i64) -> Result<(), OutOfMemory>
     ensures { OnOk result (text.new ≡ text.old ++ name.now ++ codes " " ++ signed_decimal number) }
 {
-    make_room(&mut text.room, text.used, name.len() + 22)?;
+    make_room(&mut text.room, text.used, name.len() + 1 + MOST_SPACED)?;
     let end = put(&mut text.room, text.used, name.as_bytes());
     let first = put_byte(&mut text.room, end, b' ');
     text.used = put_signed(&mut text.room, first, number);
@@ -131,4 +132,20 @@ pub fn append_expression(text: &mut Text, expression: &ConstExpr) -> Result<(), 
         append_lent(text, operator)?;
     }
     Ok(())
+}
+
+// Appends a line: words, a number, and an expression.
+#[inline(always)]
+pub(crate) fn append_expression_line(
+    text: &mut Text,
+    words: &str,
+    number: u32,
+    expression: &ConstExpr,
+) -> Result<(), OutOfMemory>
+    ensures { OnOk result (text.new ≡ text.old ++ (named_number words.now number ++ codes " " ++ expression_text expression.now ++ codes "\n")) }
+{
+    append_named(text, words, number)?;
+    text.push_byte(b' ')?;
+    append_expression(text, expression)?;
+    text.push_byte(b'\n')
 }

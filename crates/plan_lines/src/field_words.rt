@@ -2,20 +2,23 @@
 
 ghost use Rattle.std.specs.Prelude.{◌≡◌, ◌+◌, ◌≤◌, ◌++◌, length, take, OnOk, codes};
 ghost use Rattle.wasm_types.specs.Texts.{spaced, storage_text, field_text, array_text, struct_text, exn_text};
+ghost use Rattle.plan_lines.specs.Room.{Puts};
 
 use crate::reference_words::append_index;
 use crate::room::{make_room, put, put_byte};
 use crate::text::Text;
-use crate::value_words::put_value;
+use crate::value_words::{MOST_VALUE, put_value};
 use entity_map::OutOfMemory;
 use wasm_types::{WasmArrayType, WasmExnType, WasmFieldType, WasmStorageType, WasmStructType};
+
+/// The most bytes of a space and a field: " (mut", the storage type and a parenthesis.
+const MOST_FIELD: usize = 5 + MOST_VALUE + 1;
 
 // Writes a space and a storage type.
 #[inline(always)]
 fn put_storage(room: &mut [u8], used: usize, ty: &WasmStorageType) -> usize
-    requires { used + 64 ≤ length room.old }
-    ensures written { take result room.new ≡ take used room.old ++ codes " " ++ storage_text ty.now }
-    ensures end { (used ≤ result) × (result ≤ used + 64) }
+    requires { used + MOST_VALUE ≤ length room.old }
+    ensures { Puts MOST_VALUE (codes " " ++ storage_text ty.now) room.old used room.new result }
 {
     match ty {
         WasmStorageType::I8 => put(room, used, b" i8"),
@@ -26,9 +29,8 @@ fn put_storage(room: &mut [u8], used: usize, ty: &WasmStorageType) -> usize
 
 // Writes a space and a field.
 fn put_field(room: &mut [u8], used: usize, field: &WasmFieldType) -> usize
-    requires { used + 72 ≤ length room.old }
-    ensures written { take result room.new ≡ take used room.old ++ codes " " ++ field_text field.now }
-    ensures end { (used ≤ result) × (result ≤ used + 72) }
+    requires { used + MOST_FIELD ≤ length room.old }
+    ensures { Puts MOST_FIELD (codes " " ++ field_text field.now) room.old used room.new result }
 {
     if !field.mutable {
         return put_storage(room, used, &field.element_type);
@@ -42,7 +44,7 @@ fn put_field(room: &mut [u8], used: usize, field: &WasmFieldType) -> usize
 fn append_field(text: &mut Text, field: &WasmFieldType) -> Result<(), OutOfMemory>
     ensures { OnOk result (text.new ≡ text.old ++ codes " " ++ field_text field.now) }
 {
-    make_room(&mut text.room, text.used, 72)?;
+    make_room(&mut text.room, text.used, MOST_FIELD)?;
     text.used = put_field(&mut text.room, text.used, field);
     Ok(())
 }

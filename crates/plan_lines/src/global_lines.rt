@@ -4,14 +4,15 @@ ghost use Rattle.std.specs.Prelude.{◌≡◌, ◌++◌, OnOk};
 ghost use Rattle.std.specs.List.{flat_map};
 ghost use Rattle.plan_lines.specs.GlobalLines.{constant_of, global_line, global_expression_line};
 
-use crate::expressions::{append_expression, append_operator};
-use crate::numbers::{append_between, append_named};
+use crate::expressions::{append_expression_line, append_operator};
+use crate::numbers::append_between;
 use crate::text::Text;
 use entity_map::{EntityRef, OutOfMemory};
 use wasm_convert::{ConstExpr, ConstOp, GlobalConstValue};
 use wasm_index::DefinedGlobalIndex;
 
-fn constant_of(value: GlobalConstValue) -> ConstOp
+/// The operator that gives a value.
+pub fn constant_of(value: GlobalConstValue) -> ConstOp
     ensures { result ≡ constant_of value }
 {
     match value {
@@ -68,10 +69,7 @@ pub fn append_global_expression(
 ) -> Result<(), OutOfMemory>
     ensures { OnOk result (text.new ≡ text.old ++ global_expression_line index expression.now) }
 {
-    append_named(text, "global-expr", index.as_u32())?;
-    text.push_byte(b' ')?;
-    append_expression(text, expression)?;
-    text.push_byte(b'\n')
+    append_expression_line(text, "global-expr", index.as_u32(), expression)
 }
 
 /// Appends the lines of the globals that begin as the values of expressions.

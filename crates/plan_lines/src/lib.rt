@@ -43,7 +43,7 @@ mod worked;
 pub use context_lines::{append_context, append_region, append_regions};
 pub use expressions::{append_expression, append_operator};
 pub use global_lines::{
-    append_global, append_global_expression, append_global_expressions, append_globals,
+    append_global, append_global_expression, append_global_expressions, append_globals, constant_of,
 };
 pub use hint_lines::{append_function_hints, append_hints};
 pub use layout_lines::{append_array_layout, append_fields_layout, append_layout, append_layouts};

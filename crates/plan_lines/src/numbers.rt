@@ -4,17 +4,20 @@ ghost use Rattle.std.specs.Prelude.{◌≡◌, ◌≤◌, ◌+◌, ◌*◌, ◌�
 ghost use Rattle.wasm_types.specs.Texts.{spaced};
 ghost use Rattle.plan_lines.specs.Numbers.{numbers_line, counts_line, named_number};
 
-use crate::digits::{put_number, put_numbers, put_spaced};
+use crate::digits::{MOST_NUMBER, MOST_SPACED, put_number, put_numbers, put_spaced};
 use crate::room::{make_room, put, put_byte};
 use crate::text::Text;
 use entity_map::OutOfMemory;
 
-// The most bytes that a line of a word and numbers takes: a number has at most twenty digits.
+// The most bytes of a line of a word and numbers.
 #[inline(always)]
 fn most_bytes(word: &str, numbers: &[u64]) -> Option<usize>
-    ensures { IfSome result (λ n. n ≡ 21 * length numbers.now + (length word.now + 1)) }
+    ensures { IfSome result (λ n. n ≡ MOST_SPACED * length numbers.now + (length word.now + 1)) }
 {
-    numbers.len().checked_mul(21)?.checked_add(word.len() + 1)
+    numbers
+        .len()
+        .checked_mul(MOST_SPACED)?
+        .checked_add(word.len() + 1)
 }
 
 /// Appends a line: a word, and numbers.
@@ -41,7 +44,7 @@ pub fn append_numbers(text: &mut Text, word: &str, numbers: &[u64]) -> Result<()
 pub(crate) fn append_number(text: &mut Text, number: u32) -> Result<(), OutOfMemory>
     ensures { OnOk result (text.new ≡ text.old ++ (codes " " ++ decimal number)) }
 {
-    make_room(&mut text.room, text.used, 21)?;
+    make_room(&mut text.room, text.used, MOST_SPACED)?;
     text.used = put_spaced(&mut text.room, text.used, number.into());
     Ok(())
 }
@@ -52,7 +55,7 @@ pub(crate) fn append_number(text: &mut Text, number: u32) -> Result<(), OutOfMem
 pub(crate) fn append_named(text: &mut Text, words: &str, number: u32) -> Result<(), OutOfMemory>
     ensures { OnOk result (text.new ≡ text.old ++ named_number words.now number) }
 {
-    make_room(&mut text.room, text.used, words.len() + 21)?;
+    make_room(&mut text.room, text.used, words.len() + MOST_SPACED)?;
     let end = put(&mut text.room, text.used, words.as_bytes());
     text.used = put_spaced(&mut text.room, end, number.into());
     Ok(())
@@ -69,7 +72,7 @@ pub(crate) fn append_between(
     requires { length before.now + length after.now ≤ 100 }
     ensures { OnOk result (text.new ≡ text.old ++ before.now ++ decimal number ++ after.now) }
 {
-    make_room(&mut text.room, text.used, before.len() + 20 + after.len())?;
+    make_room(&mut text.room, text.used, before.len() + MOST_NUMBER + after.len())?;
     let first = put(&mut text.room, text.used, before.as_bytes());
     let end = put_number(&mut text.room, first, number);
     text.used = put(&mut text.room, end, after.as_bytes());

@@ -2,19 +2,34 @@
 
 ghost use Rattle.std.specs.Prelude.{◌≡◌, ◌+◌, ◌≤◌, ◌++◌, length, take, OnOk, codes, decimal};
 ghost use Rattle.wasm_types.specs.Texts.{index_text, heap_text, ref_text};
+ghost use Rattle.plan_lines.specs.Room.{Puts};
 
-use crate::digits::put_number;
+use crate::digits::{MOST_NUMBER, put_number};
 use crate::room::{make_room, put, put_byte};
 use crate::text::Text;
 use entity_map::{EntityRef, OutOfMemory};
 use wasm_types::{EngineOrModuleTypeIndex, WasmHeapType, WasmRefType};
 
+// The most bytes before an index ("(recgroup "), before the index of a heap type ("struct ") and before
+// the heap type of a reference ("(ref null ").
+const MOST_LIST: usize = 10;
+const MOST_KIND: usize = 7;
+const MOST_HEAD: usize = 10;
+
+/// The most bytes of an index and the list that it indexes, in parentheses.
+const MOST_INDEX: usize = MOST_LIST + MOST_NUMBER + 1;
+
+/// The most bytes of a heap type.
+const MOST_HEAP: usize = MOST_KIND + MOST_INDEX;
+
+/// The most bytes of a reference type.
+pub(crate) const MOST_REFERENCE: usize = MOST_HEAD + MOST_HEAP + 1;
+
 // Writes a number behind the name of the list that it indexes, and closes the parenthesis.
 #[inline(always)]
 fn put_listed(room: &mut [u8], used: usize, list: &[u8], number: u32) -> usize
-    requires { (length list.now ≤ 10) × (used + 32 ≤ length room.old) }
-    ensures written { take result room.new ≡ take used room.old ++ list.now ++ decimal number ++ codes ")" }
-    ensures end { (used ≤ result) × (result ≤ used + 32) }
+    requires { (length list.now ≤ MOST_LIST) × (used + MOST_INDEX ≤ length room.old) }
+    ensures { Puts MOST_INDEX (list.now ++ decimal number ++ codes ")") room.old used room.new result }
 {
     let first = put(room, used, list);
     let end = put_number(room, first, number.into());
@@ -23,9 +38,8 @@ fn put_listed(room: &mut [u8], used: usize, list: &[u8], number: u32) -> usize
 
 // Writes an index, and the list that it indexes.
 fn put_index(room: &mut [u8], used: usize, index: EngineOrModuleTypeIndex) -> usize
-    requires { used + 32 ≤ length room.old }
-    ensures written { take result room.new ≡ take used room.old ++ index_text index }
-    ensures end { (used ≤ result) × (result ≤ used + 32) }
+    requires { used + MOST_INDEX ≤ length room.old }
+    ensures { Puts MOST_INDEX (index_text index) room.old used room.new result }
 {
     match index {
         EngineOrModuleTypeIndex::Engine(index) => put_listed(room, used, b"(engine ", index.bits()),
@@ -47,9 +61,8 @@ fn put_index(room: &mut [u8], used: usize, index: EngineOrModuleTypeIndex) -> us
 // Writes the kind of a concrete heap type, with the space behind it, and the index.
 #[inline(always)]
 fn put_concrete(room: &mut [u8], used: usize, kind: &[u8], index: EngineOrModuleTypeIndex) -> usize
-    requires { (length kind.now ≤ 8) × (used + 40 ≤ length room.old) }
-    ensures written { take result room.new ≡ take used room.old ++ kind.now ++ index_text index }
-    ensures end { (used ≤ result) × (result ≤ used + 40) }
+    requires { (length kind.now ≤ MOST_KIND) × (used + MOST_HEAP ≤ length room.old) }
+    ensures { Puts MOST_HEAP (kind.now ++ index_text index) room.old used room.new result }
 {
     let first = put(room, used, kind);
     put_index(room, first, index)
@@ -57,9 +70,8 @@ fn put_concrete(room: &mut [u8], used: usize, kind: &[u8], index: EngineOrModule
 
 // Writes a heap type.
 fn put_heap(room: &mut [u8], used: usize, ty: &WasmHeapType) -> usize
-    requires { used + 40 ≤ length room.old }
-    ensures written { take result room.new ≡ take used room.old ++ heap_text ty.now }
-    ensures end { (used ≤ result) × (result ≤ used + 40) }
+    requires { used + MOST_HEAP ≤ length room.old }
+    ensures { Puts MOST_HEAP (heap_text ty.now) room.old used room.new result }
 {
     match ty {
         WasmHeapType::Extern => put(room, used, b"extern"),
@@ -87,9 +99,8 @@ fn put_heap(room: &mut [u8], used: usize, ty: &WasmHeapType) -> usize
 // Writes a reference in parentheses, of which the head is the first and whether it may be null.
 #[inline(always)]
 fn put_long_reference(room: &mut [u8], used: usize, head: &[u8], ty: &WasmHeapType) -> usize
-    requires { (length head.now ≤ 10) × (used + 56 ≤ length room.old) }
-    ensures written { take result room.new ≡ take used room.old ++ head.now ++ heap_text ty.now ++ codes ")" }
-    ensures end { (used ≤ result) × (result ≤ used + 56) }
+    requires { (length head.now ≤ MOST_HEAD) × (used + MOST_REFERENCE ≤ length room.old) }
+    ensures { Puts MOST_REFERENCE (head.now ++ heap_text ty.now ++ codes ")") room.old used room.new result }
 {
     let first = put(room, used, head);
     let end = put_heap(room, first, ty);
@@ -98,9 +109,8 @@ fn put_long_reference(room: &mut [u8], used: usize, head: &[u8], ty: &WasmHeapTy
 
 // Writes a reference type.
 pub(crate) fn put_reference(room: &mut [u8], used: usize, ty: &WasmRefType) -> usize
-    requires { used + 56 ≤ length room.old }
-    ensures written { take result room.new ≡ take used room.old ++ ref_text ty.now }
-    ensures end { (used ≤ result) × (result ≤ used + 56) }
+    requires { used + MOST_REFERENCE ≤ length room.old }
+    ensures { Puts MOST_REFERENCE (ref_text ty.now) room.old used room.new result }
 {
     let heap_type = &ty.heap_type;
     match (ty.nullable, heap_type) {
@@ -118,7 +128,7 @@ pub(crate) fn append_index(
 ) -> Result<(), OutOfMemory>
     ensures { OnOk result (text.new ≡ text.old ++ index_text index) }
 {
-    make_room(&mut text.room, text.used, 32)?;
+    make_room(&mut text.room, text.used, MOST_INDEX)?;
     text.used = put_index(&mut text.room, text.used, index);
     Ok(())
 }
@@ -127,7 +137,7 @@ pub(crate) fn append_index(
 pub(crate) fn append_reference(text: &mut Text, ty: &WasmRefType) -> Result<(), OutOfMemory>
     ensures { OnOk result (text.new ≡ text.old ++ ref_text ty.now) }
 {
-    make_room(&mut text.room, text.used, 56)?;
+    make_room(&mut text.room, text.used, MOST_REFERENCE)?;
     text.used = put_reference(&mut text.room, text.used, ty);
     Ok(())
 }
@@ -136,7 +146,7 @@ pub(crate) fn append_reference(text: &mut Text, ty: &WasmRefType) -> Result<(), 
 pub(crate) fn append_heap(text: &mut Text, ty: &WasmHeapType) -> Result<(), OutOfMemory>
     ensures { OnOk result (text.new ≡ text.old ++ heap_text ty.now) }
 {
-    make_room(&mut text.room, text.used, 40)?;
+    make_room(&mut text.room, text.used, MOST_HEAP)?;
     text.used = put_heap(&mut text.room, text.used, ty);
     Ok(())
 }

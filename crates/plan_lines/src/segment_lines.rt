@@ -16,9 +16,9 @@ ghost use Rattle.plan_lines.specs.SegmentLines.{
   segment_lines,
 };
 
-use crate::expressions::append_expression;
+use crate::expressions::{append_expression, append_expression_line};
 use crate::memory_lines::append_images;
-use crate::numbers::{append_between, append_named};
+use crate::numbers::append_between;
 use crate::text::Text;
 use entity_map::{EntityRef, OutOfMemory, PrimaryMap};
 use init_plan::{MemoryInit, MemoryInitialization, MemorySegmentOffset};
@@ -34,10 +34,7 @@ fn append_table_expression(
 ) -> Result<(), OutOfMemory>
     ensures { OnOk result (text.new ≡ text.old ++ table_expression_line table expression.now) }
 {
-    append_named(text, "table-expr", table.as_u32())?;
-    text.push_byte(b' ')?;
-    append_expression(text, expression)?;
-    text.push_byte(b'\n')
+    append_expression_line(text, "table-expr", table.as_u32(), expression)
 }
 
 /// Appends the line of a table whose cells begin as the value of an expression; a table of null

@@ -4,12 +4,16 @@
 ghost use Rattle.std.specs.Prelude.{◌≡◌, ◌+◌, ◌*◌, ◌≤◌, ◌++◌, length, take, OnOk, IfOk, IfSome, IfNone, IsSome, codes};
 ghost use Rattle.wasm_types.specs.Texts.{val_text, spaced};
 ghost use Rattle.wasm_types.specs.Views.{ref_in};
+ghost use Rattle.plan_lines.specs.Room.{Puts};
 
-use crate::reference_words::put_reference;
+use crate::reference_words::{MOST_REFERENCE, put_reference};
 use crate::room::{make_room, put_byte, put_part};
 use crate::text::Text;
 use entity_map::OutOfMemory;
 use wasm_types::WasmValType;
+
+/// The most bytes of a space and a value type.
+pub(crate) const MOST_VALUE: usize = 1 + MOST_REFERENCE;
 
 // A space and the word of a type of numbers or vectors, and how many of the bytes that is.
 #[inline(always)]
@@ -72,9 +76,8 @@ pub(crate) fn append_values(text: &mut Text, types: &[WasmValType]) -> Result<()
 
 // Writes a space and a value type.
 pub(crate) fn put_value(room: &mut [u8], used: usize, ty: &WasmValType) -> usize
-    requires { used + 64 ≤ length room.old }
-    ensures written { take result room.new ≡ take used room.old ++ codes " " ++ val_text ty.now }
-    ensures end { (used ≤ result) × (result ≤ used + 64) }
+    requires { used + MOST_VALUE ≤ length room.old }
+    ensures { Puts MOST_VALUE (codes " " ++ val_text ty.now) room.old used room.new result }
 {
     match short_word(ty) {
         Some((word, len)) => put_part(room, used, word, len),
@@ -89,7 +92,7 @@ pub(crate) fn put_value(room: &mut [u8], used: usize, ty: &WasmValType) -> usize
 fn append_value(text: &mut Text, ty: &WasmValType) -> Result<(), OutOfMemory>
     ensures { OnOk result (text.new ≡ text.old ++ codes " " ++ val_text ty.now) }
 {
-    make_room(&mut text.room, text.used, 64)?;
+    make_room(&mut text.room, text.used, MOST_VALUE)?;
     text.used = put_value(&mut text.room, text.used, ty);
     Ok(())
 }

@@ -2,7 +2,6 @@
 
 ghost use Rattle.std.specs.Prelude.{◌≡◌, map, IfOk};
 ghost use Rattle.wasm_index.specs.Index.{number_of};
-ghost use Rattle.plan_lines.specs.GlobalLines.{constant_of};
 ghost use Rattle.plan_tables.specs.Globals.{global_value_row, TellsGlobals};
 
 use crate::operators::operator_row;
@@ -10,22 +9,10 @@ use crate::record::GlobalsRecord;
 use crate::rows::GlobalValueRow;
 use entity_map::{EntityRef, OutOfMemory};
 use init_plan::ModuleTranslation;
+use plan_lines::constant_of;
 use std::alloc::Global;
-use wasm_convert::{ConstExpr, ConstOp, GlobalConstValue};
+use wasm_convert::{ConstExpr, GlobalConstValue};
 use wasm_index::DefinedGlobalIndex;
-
-// The operator that gives a value.
-fn constant_of(value: GlobalConstValue) -> ConstOp
-    ensures { result ≡ constant_of value }
-{
-    match value {
-        GlobalConstValue::I32(number) => ConstOp::I32Const(number),
-        GlobalConstValue::I64(number) => ConstOp::I64Const(number),
-        GlobalConstValue::F32(bits) => ConstOp::F32Const(bits),
-        GlobalConstValue::F64(bits) => ConstOp::F64Const(bits),
-        GlobalConstValue::V128(bits) => ConstOp::V128Const(bits),
-    }
-}
 
 fn global_value_row(global: DefinedGlobalIndex, value: GlobalConstValue) -> GlobalValueRow
     ensures { result ≡ global_value_row (global, value) }

@@ -1,9 +1,7 @@
-use Rattle.std.proofs.Common.{◌≡◌, ◌≤◌, ◌+◌, ◌*◌, ◌++◌, take}
+use Rattle.std.proofs.Common.{◌*◌, take}
 use Rattle.wasm_types.specs.Texts.{spaced, val_text}
+use Rattle.plan_lines.specs.Room.{Puts}
 use Rattle.plan_lines.proofs.value_words.put_values.Given as goal
 
 abbrev pub invariant-loop-count : goal.invariant-loop-count
-invariant-loop-count l = record {
-  written : take l.end l.room ≡ take l.used l.initial.room ++ spaced val_text (take l.count l.types);
-  within : (l.used ≤ l.end) × (l.end ≤ l.used + 8 * l.count);
-}
+invariant-loop-count l = Puts (8 * l.count) (spaced val_text (take l.count l.types)) l.initial.room l.used l.room l.end

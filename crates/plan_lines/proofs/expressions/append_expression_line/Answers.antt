@@ -1,13 +1,10 @@
 use Rattle.std.proofs.Common.{append_assoc}
-use Rattle.plan_lines.specs.GlobalLines.{global_expression_line}
-use Rattle.plan_lines.proofs.global_lines.append_global_expression.Goals as goal
+use Rattle.plan_lines.proofs.expressions.append_expression_line.Goals as goal
 
 -- the pieces, one after another, are the line
 pub returns : goal.returns
-unfolding global_expression_line
 returns c =
     let written = simp (
-      c.as_u32.ensures,
       c.in_ok-append_named.ensures,
       c.in_ok-push_byte.ensures,
       c.in_ok-append_expression.ensures,
