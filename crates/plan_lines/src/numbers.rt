@@ -72,7 +72,11 @@ pub(crate) fn append_between(
     requires { length before.now + length after.now ≤ 100 }
     ensures { OnOk result (text.new ≡ text.old ++ before.now ++ decimal number ++ after.now) }
 {
-    make_room(&mut text.room, text.used, before.len() + MOST_NUMBER + after.len())?;
+    make_room(
+        &mut text.room,
+        text.used,
+        before.len() + MOST_NUMBER + after.len(),
+    )?;
     let first = put(&mut text.room, text.used, before.as_bytes());
     let end = put_number(&mut text.room, first, number);
     text.used = put(&mut text.room, end, after.as_bytes());

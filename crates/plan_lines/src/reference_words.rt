@@ -13,7 +13,9 @@ use wasm_types::{EngineOrModuleTypeIndex, WasmHeapType, WasmRefType};
 // The most bytes before an index ("(recgroup "), before the index of a heap type ("struct ") and before
 // the heap type of a reference ("(ref null ").
 const MOST_LIST: usize = 10;
+
 const MOST_KIND: usize = 7;
+
 const MOST_HEAD: usize = 10;
 
 /// The most bytes of an index and the list that it indexes, in parentheses.
