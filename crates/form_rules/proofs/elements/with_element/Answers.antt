@@ -1,6 +1,6 @@
 use Rattle.std.proofs.Common.{length}
 use Rattle.form_rules.specs.Views.{lists_of}
-use Rattle.form_rules.proofs.Constants.{also}
+use Rattle.form_rules.proofs.PlainExpressions.{also}
 use Rattle.form_rules.proofs.elements.with_element.Goals as goal
 
 pub returns-then-before : goal.returns-then-before
