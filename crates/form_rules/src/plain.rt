@@ -16,7 +16,7 @@ use form_reader::{ConstExpr, DataKind, Element, ElementItems, ElementKind};
 
 /// Whether the expression is one `i32.const`.
 #[inline(always)]
-#[tactic(auto, using(crate::proofs::Constants::constant_typed, crate::proofs::Constants::constant_refers))]
+#[tactic(auto, using(crate::proofs::PlainExpressions::constant_typed, crate::proofs::PlainExpressions::constant_refers))]
 fn is_constant(expression: &ConstExpr) -> bool
     ensures typed { (l : rule.Lists) (visible : List GlobalType) → IsTrue result → HasClass l visible (expression_of expression.now) I32 }
     ensures refers { (types : ℕ) → IsTrue result → ExpressionRefersIn types (expression_of expression.now) }
