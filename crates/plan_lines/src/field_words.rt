@@ -1,6 +1,6 @@
 //! The text of fields, and of the types that consist of them.
 
-ghost use Rattle.std.specs.Prelude.{◌≡◌, ◌+◌, ◌≤◌, ◌++◌, length, take, OnOk, codes};
+ghost use Rattle.std.specs.Prelude.{◌≡◌, ◌+◌, ◌≤◌, ◌++◌, length, OnOk, codes};
 ghost use Rattle.wasm_types.specs.Texts.{spaced, storage_text, field_text, array_text, struct_text, exn_text};
 ghost use Rattle.plan_lines.specs.Room.{Puts};
 
@@ -11,7 +11,7 @@ use crate::value_words::{MOST_VALUE, put_value};
 use entity_map::OutOfMemory;
 use wasm_types::{WasmArrayType, WasmExnType, WasmFieldType, WasmStorageType, WasmStructType};
 
-/// The most bytes of a space and a field: " (mut", the storage type and a parenthesis.
+// The most bytes of a space and a field: those of " (mut", the storage type and a parenthesis.
 const MOST_FIELD: usize = 5 + MOST_VALUE + 1;
 
 // Writes a space and a storage type.

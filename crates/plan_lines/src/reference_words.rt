@@ -1,6 +1,6 @@
 //! The text of a reference type, word by word, into capacity that is reserved for the longest.
 
-ghost use Rattle.std.specs.Prelude.{◌≡◌, ◌+◌, ◌≤◌, ◌++◌, length, take, OnOk, codes, decimal};
+ghost use Rattle.std.specs.Prelude.{◌≡◌, ◌+◌, ◌≤◌, ◌++◌, length, OnOk, codes, decimal};
 ghost use Rattle.wasm_types.specs.Texts.{index_text, heap_text, ref_text};
 ghost use Rattle.plan_lines.specs.Room.{Puts};
 
@@ -10,18 +10,19 @@ use crate::text::Text;
 use entity_map::{EntityRef, OutOfMemory};
 use wasm_types::{EngineOrModuleTypeIndex, WasmHeapType, WasmRefType};
 
-// The most bytes before an index ("(recgroup "), before the index of a heap type ("struct ") and before
-// the heap type of a reference ("(ref null ").
+// The most bytes before the number of an index: those of "(recgroup ".
 const MOST_LIST: usize = 10;
 
+// The most bytes before the index of a heap type: those of "struct ".
 const MOST_KIND: usize = 7;
 
+// The most bytes before the heap type of a reference: those of "(ref null ".
 const MOST_HEAD: usize = 10;
 
-/// The most bytes of an index and the list that it indexes, in parentheses.
+// The most bytes of an index with the list that it indexes.
 const MOST_INDEX: usize = MOST_LIST + MOST_NUMBER + 1;
 
-/// The most bytes of a heap type.
+// The most bytes of a heap type.
 const MOST_HEAP: usize = MOST_KIND + MOST_INDEX;
 
 /// The most bytes of a reference type.

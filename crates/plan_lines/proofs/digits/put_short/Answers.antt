@@ -3,6 +3,8 @@ use Rattle.plan_lines.proofs.Decimal.{decimal_pair}
 use Rattle.plan_lines.proofs.digits.put_short.Goals as goal
 
 pub returns : goal.returns
-returns c =
-    let first = c.put_below_hundred-hundreds.ensures.0 in
-    (rw (decimal_pair c.args.number (omega arith) (omega arith), ← append_assoc, ← first) c.put_pair.ensures.written, omega arith, omega arith)
+returns c = (
+  rw (decimal_pair c.args.number (omega arith) (omega arith), ← append_assoc, ← c.put_below_hundred-hundreds.ensures.0) c.put_pair.ensures.written,
+  omega arith,
+  omega arith,
+)
