@@ -36,6 +36,9 @@ returns-in-Ok-plan_of-2-clause-usage c = (
 
 -- the second is refused
 
+pub returns-in-Ok-plan_of-clause-statuses : goal.returns-in-Ok-plan_of-clause-statuses
+returns-in-Ok-plan_of-clause-statuses c = elim c.tell_refusal_of.ensures.statuses [ inl told ↦ inr (inl told) | inr memory ↦ inr (inr (inr memory)) ]
+
 pub returns-in-Ok-plan_of-clause-usage : goal.returns-in-Ok-plan_of-clause-usage
 returns-in-Ok-plan_of-clause-usage c = (
   λ usage. elim c.tell_refusal_of.ensures.statuses [ inl told ↦ absurd (omega (arith, usage, told)) | inr memory ↦ absurd (omega (arith, usage, memory)) ],
