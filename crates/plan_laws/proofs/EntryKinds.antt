@@ -6,7 +6,7 @@ use Rattle.wasm_spec.specs.Module.{Import, function_import, memory_import, tag_i
 use Rattle.wasm_convert.specs.Conversion.{LookUp}
 use Rattle.replay_spec.specs.Data.{ActiveSegment, active_of_kind}
 use Rattle.replay_spec.specs.Startup.{passive_elements}
-use Rattle.module_environ.specs.Initialisers.{active_items, passive_data_in, passive_data_from}
+use Rattle.module_sections.specs.Initialisers.{active_items, passive_data_in, passive_data_from}
 use Rattle.translate.proofs.EntryCounts as counts
 
 abbrev of : {A : Type 0} → (TypeRef → Option A) → List Import → ℕ
