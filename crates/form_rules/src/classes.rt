@@ -9,8 +9,8 @@ ghost use Rattle.rule_spec.specs.Typing.{class_of, field_class, value_has_defaul
 ghost use Rattle.form_rules.specs.Views.{lists_of};
 ghost use Rattle.form_rules.specs.Defaults.{defaults_of, defaults as defaults_of_types};
 
+use crate::lists::Lists;
 use form_reader::CompositeInnerType;
-use form_rules::Lists;
 use rule_spec::Class;
 use std::alloc::{AllocError, Global};
 use wasm_spec::{FieldType, StorageType, ValType};

@@ -12,11 +12,12 @@ ghost use Rattle.form_rules.specs.Views.{lists_of};
 ghost use Rattle.form_rules.specs.Globals.{IsGlobalTyped};
 
 use crate::classes::{Typing, class_of};
+use crate::lists::Lists;
+use crate::sections::entries_of;
 use crate::typing::is_typed;
 use form_reader::{
     ConstExpr, DataKind, DataSegment, Element, ElementItems, ElementKind, GlobalDef, TableDef,
 };
-use form_rules::{Lists, entries_of};
 use rule_spec::Class;
 use std::alloc::{AllocError, Global};
 use wasm_spec::GlobalType;

@@ -14,9 +14,9 @@ ghost use Rattle.form_rules.specs.Stack.{Taken};
 ghost use Rattle.form_rules.specs.Defaults.{default_signature};
 
 use crate::classes::{Typing, class_of, field_class, has_default};
+use crate::lists::Lists;
 use crate::stack::{pop, pop_fields, pop_many, pop_two};
 use form_reader::CompositeInnerType;
-use form_rules::Lists;
 use rule_spec::Class;
 use wasm_spec::{FieldType, GlobalType, Operator};
 

@@ -38,6 +38,6 @@ mod zeros;
 pub use error::ImageError;
 pub use image::Image;
 pub use laws::written_ranges_law;
-pub use plan_text::{plan_images, too_large_at};
+pub use plan::{plan_images, too_large_at};
 pub use settings::ImageSettings;
 pub use written::{Written, written_ranges};

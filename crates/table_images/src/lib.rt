@@ -22,4 +22,4 @@ mod lay;
 mod plan;
 mod spot;
 
-pub use plan_text::plan_tables;
+pub use plan::plan_tables;

@@ -7,7 +7,7 @@ ghost use Rattle.type_registry.specs.Changes.{find_group};
 
 use crate::hashing::GroupHashes;
 use crate::kept::Kept;
-use crate::plan_text::Fresh;
+use crate::plan::Fresh;
 use entity_map::OutOfMemory;
 use std::alloc::Global;
 use std::collections::HashMap;

@@ -15,7 +15,7 @@ use crate::error::RegistryError;
 use crate::fresh::FreshGroups;
 use crate::groups::Groups;
 use crate::kept::{Held, Kept};
-use crate::plan_text::{Fresh, canonical, used};
+use crate::plan::{Fresh, canonical, used};
 use entity_map::{EntityRef, OutOfMemory};
 use module_types::ModuleTypes;
 use std::alloc::Global;

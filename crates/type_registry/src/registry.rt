@@ -19,7 +19,7 @@ use crate::groups::Groups;
 use crate::hashing::next_seed;
 use crate::kept::Held;
 use crate::key::ModuleKey;
-use crate::plan_text::Fresh;
+use crate::plan::Fresh;
 use crate::planning::{Planned, Source, plan_groups};
 use entity_map::EntityRef;
 use module_types::ModuleTypes;
