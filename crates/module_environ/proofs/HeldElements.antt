@@ -20,7 +20,7 @@ use Rattle.wasm_module.specs.Elements.{element_type, element_count}
 use Rattle.replay_spec.specs.Startup.{is_passive, passive_elements}
 use Rattle.module_environ.specs.declared.elements.ElementSegments.{ElementSegments}
 use Rattle.module_environ.specs.Initialisers.{active_in, active_elements, view_segment, passive_items, items_in, view_items, passive_numbers}
-use Rattle.module_environ.specs.Segments.{HoldsElements, HasRoom}
+use Rattle.module_environ.specs.Segments.{HoldsElements, HasRoomForSegments}
 
 -- ---- numbers among the passive ones
 
@@ -150,7 +150,7 @@ module _ (look : LookUp) (before : List Element) (e : Element) (old : ElementSeg
 
 module _ (look : LookUp) where
   -- so lists are short
-  pub room-counts : (a : ElementSegments) → HasRoom look a 1
+  pub room-counts : (a : ElementSegments) → HasRoomForSegments look a 1
       → (a.count < 4294967295) × (length a.kinds < 4294967294) × (length a.passive < 4294967294)
   room-counts a room =
       let passive = counted look room.0 a room.1 in
