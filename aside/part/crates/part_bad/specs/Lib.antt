@@ -1,0 +1,3 @@
+pub mod Condition
+pub mod Table
+pub mod Worked

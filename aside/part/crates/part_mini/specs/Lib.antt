@@ -1,0 +1,12 @@
+pub mod Spellings
+pub mod Parts
+pub mod Reading
+pub mod ReadingNumbers
+pub mod Agrees
+pub mod NumberLaws
+pub mod MadeLaws
+pub mod Readings
+pub mod Theorem
+pub mod Types
+pub mod UpTo
+pub mod ByteOr

@@ -1,0 +1,6 @@
+//! A miniature: the grammar as data with two readings.
+#![tactic(auto)]
+
+mod error;
+
+pub use error::ReadError;

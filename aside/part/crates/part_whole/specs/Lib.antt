@@ -1,0 +1,3 @@
+pub mod TypeGrammar
+pub mod ExpressionGrammar
+pub mod Grammar

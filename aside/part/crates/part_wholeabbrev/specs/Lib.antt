@@ -1,0 +1,4 @@
+pub mod TypeGrammar
+pub mod ExpressionGrammar
+pub mod Grammar
+pub mod Uses

@@ -1,0 +1,7 @@
+//! What is refused.
+#![tactic(auto)]
+
+/// One.
+pub fn one() -> u32 {
+    1
+}

@@ -1,0 +1,9 @@
+pub mod Numbers
+pub mod Parts
+pub mod TypeData
+pub mod Module
+pub mod Sizes
+pub mod TypeGrammar
+pub mod ExpressionGrammar
+pub mod Grammar
+pub mod Interfaces
