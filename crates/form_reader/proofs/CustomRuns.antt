@@ -1,9 +1,7 @@
 -- Custom sections one after another.
-use Rattle.std.proofs.Common.{◌≡◌, ℕ, zero, suc, ◌+◌, ◌-◌, ◌<◌, ◌≤◌, List, [], ◌∷◌, ◌++◌, length, drop, Some, None, Result, Ok, Err, Bool, true, false, refl, sym, ap, subst, ◌∙◌, append_assoc, arith}
+use Rattle.std.proofs.Common.{◌≡◌, ℕ, zero, suc, ◌+◌, ◌-◌, ◌<◌, ◌≤◌, List, [], ◌∷◌, ◌++◌, length, drop, Result, Ok, Err, Bool, true, false, refl, sym, ap, subst, ◌∙◌, append_assoc, arith}
 use Rattle.std.specs.Prelude.{nat_eq, ◌==◌}
 use Rattle.std.specs.List.{starts_with, flat_map, All}
-use Rattle.std.specs.Option.{ok_or}
-use Rattle.std.specs.Result.{result_ok}
 use Rattle.std.proofs.lemmas.Bool.Decides.{Decides-eqb}
 use Rattle.std.proofs.lemmas.Slice.Eq.{starts_is}
 use Rattle.std.proofs.lemmas.List.{append-nil, length-append}
@@ -13,7 +11,7 @@ use Rattle.wasm_spec.specs.Parts as part
 use Rattle.wasm_spec.specs.Grammar.{name, next_order}
 use Rattle.form_reader.specs.declared.error.ReadError.{ReadError}
 use Rattle.form_reader.specs.declared.customs.InputCustoms.{InputCustoms}
-use Rattle.form_reader.specs.Reading.{Fails, Fault, Bad}
+use Rattle.form_reader.specs.Reading.{Fails, Fault}
 use Rattle.form_reader.specs.SectionRows.{section, custom_taken, custom_section}
 use Rattle.form_reader.specs.ReadingSections.{Passes, sections_at}
 use Rattle.form_reader.specs.Input.{listed, listed_after, customs_in}
@@ -59,16 +57,6 @@ none_listed of_section none run = by (customs_in run) (all_custom run.count run.
   by [] all = refl
   by (p ∷ ps) all = let is = All-head IsCustom p ps all in
       rw (is.2, none is.0 is.1) (by ps (All-tail IsCustom p ps all))
-
--- ---- what a function that needs no memory says of what is read
-
-pub was_read : {A : Type 0} (x : A) (r : Result A Fault) → Some x ≡ result_ok r → r ≡ Ok x
-was_read x (Ok y) e = ap (λ o. ok_or o Bad) (sym e)
-was_read x (Err f) e = absurd cc
-
-pub was_not_read : {A : Type 0} (r : Result A Fault) → None ≡ result_ok r → (fault : Fault) × (r ≡ Err fault)
-was_not_read (Ok y) e = absurd cc
-was_not_read (Err f) e = (f, refl)
 
 -- ---- a run, as a loop reads it
 

@@ -17,3 +17,4 @@ pub mod SameItems
 pub mod SectionLaws
 pub mod SectionList
 pub mod ShortNumbers
+pub mod Taken

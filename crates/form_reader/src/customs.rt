@@ -3,18 +3,18 @@
 ghost use Rattle.std.specs.Prelude.{◌≡◌, ℕ, [], ◌∷◌, nat_eq, true};
 ghost use Rattle.std.specs.List.{starts_with};
 ghost use Rattle.std.specs.Iterator.{YieldsFirstBy, item_count};
-ghost use Rattle.std.specs.Option.{option_map, ok_or};
+ghost use Rattle.std.specs.Option.{option_map};
 ghost use Rattle.std.specs.Result.{result_ok};
 ghost use Rattle.form_reader.specs.Input.{custom_of, customs_in};
-ghost use Rattle.form_reader.specs.Reading.{Bad, Reads, fill_after};
-ghost use Rattle.form_reader.specs.ReadingNumbers.{counted_bytes_at, name_at, sized_at};
+ghost use Rattle.form_reader.specs.Reading.{Reads, fill_after};
+ghost use Rattle.form_reader.specs.ReadingNumbers.{name_at, sized_at};
 ghost use Rattle.form_reader.specs.ReadingSections.{ReadsSections};
 ghost use Rattle.form_reader.specs.SectionRows.{is_interface_name as spec_is_interface_name, custom_after_at, custom_section};
 
 use crate::Custom;
+use crate::bytes::{counted_bytes, first_byte, name};
 use crate::cursor::Cursor;
 use crate::error::ReadError;
-use crate::numbers::{first_byte, u32_at};
 use wasm_spec::What;
 
 /// The id of custom sections.
@@ -83,36 +83,11 @@ impl<'d> Cursor<'d> {
     }
 }
 
-/// The bytes that a count at the front counts, and the bytes after them.
-#[tactic(auto, unfolding(crate::specs::ReadingNumbers::counted_bytes_at, crate::specs::Reading::raw_bytes_at))]
-pub(crate) fn counted_at(bytes: &[u8]) -> Option<(&[u8], &[u8])>
-    ensures { ok_or (option_map (λ x. (x.0.now, x.1.now)) result) Bad ≡ counted_bytes_at bytes.now }
-{
-    let (count, rest) = u32_at(bytes)?;
-    let count = count as usize;
-    if rest.len() < count {
-        return None;
-    }
-    Some(rest.split_at(count))
-}
-
-/// The name at the front, and the bytes after it.
-#[tactic(auto, unfolding(crate::specs::ReadingNumbers::name_at))]
-fn name_in(bytes: &[u8]) -> Option<(&str, &[u8])>
-    ensures { ok_or (option_map (λ x. (x.0.now, x.1.now)) result) Bad ≡ name_at bytes.now }
-{
-    let (name, rest) = counted_at(bytes)?;
-    match std::str::from_utf8(name) {
-        Ok(name) => Some((name, rest)),
-        Err(_) => None,
-    }
-}
-
 /// What follows the size of a custom section, if it is read.
 fn contents_in(body: &[u8]) -> Option<Custom<'_>>
     ensures { option_map custom_of result ≡ result_ok (fill_after name_at custom_after_at body.now) }
 {
-    let (name, bytes) = name_in(body)?;
+    let (name, bytes) = name(body)?;
     if is_interface_name(name) {
         return None;
     }
@@ -129,7 +104,7 @@ fn custom_at(bytes: &[u8]) -> Option<(Custom<'_>, &[u8])>
     if id != CUSTOM {
         return None;
     }
-    let (body, rest) = counted_at(sized)?;
+    let (body, rest) = counted_bytes(sized)?;
     let custom = contents_in(body)?;
     Some((custom, rest))
 }

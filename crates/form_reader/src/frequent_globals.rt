@@ -4,9 +4,9 @@ ghost use Rattle.std.specs.Prelude.{◌≡◌, Ok, IfSome};
 ghost use Rattle.form_reader.specs.Reading.{Gives, Reads, rest_at};
 ghost use Rattle.form_reader.specs.TypeRows.{heap_type, value_type, mutability, global_type};
 
+use crate::bytes::first_byte;
 use crate::cursor::Cursor;
 use crate::error::ReadError;
-use crate::numbers::first_byte;
 use crate::value_types::{NOT_NULLABLE, NULLABLE, number_type};
 use wasm_spec::{GlobalType, HeapType, RefType, UnpackedIndex, ValType};
 

@@ -18,10 +18,11 @@
 //! read again where they are iterated. Function bodies stay unread: `FunctionBody` has the locals,
 //! and the code as bytes.
 //!
-//! Read on: `form` and `types`, then `module`, `sections` and `vectors`; `wasm_spec` has the
-//! grammar, and `wasm_form` the public paths.
+//! Read on: `form` and `types`, then `module`, `sections` and `vectors`; `bytes` has the parts that
+//! need no memory, `wasm_spec` the grammar, and `wasm_form` the public paths.
 #![tactic(auto)]
 
+mod bytes;
 mod code;
 mod contents;
 mod counts;
@@ -58,6 +59,7 @@ mod value_lists;
 mod value_types;
 mod vectors;
 
+pub use bytes::{counted_bytes, first_byte, name, u32_at};
 pub use contents::{next_order, order_of};
 pub use cursor::Cursor;
 pub use customs::InputCustoms;

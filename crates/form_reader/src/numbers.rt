@@ -1,10 +1,11 @@
 //! Numbers at the front of bytes (core specification, 5.2, integers).
 
 ghost use Rattle.std.specs.Prelude.{◌≡◌, ◌≤◌, ◌<◌, ◌^◌, IfSome};
-ghost use Rattle.std.specs.Option.{option_map, ok_or};
-ghost use Rattle.form_reader.specs.Reading.{Bad, Reads, uncons};
+ghost use Rattle.std.specs.Option.{option_map};
+ghost use Rattle.form_reader.specs.Reading.{Reads};
 ghost use Rattle.form_reader.specs.ReadingNumbers.{unsigned_at, signed_at, non_negative_at, signed_of, found_at, sevens_of, wide_sevens_of};
 
+use crate::bytes::{first_byte, long_u32_at};
 use crate::cursor::Cursor;
 use crate::error::ReadError;
 
@@ -32,20 +33,9 @@ pub struct WideSevens {
     pub last: u8,
 }
 
-/// The first byte, and the bytes after it.
-#[inline]
-pub fn first_byte(bytes: &[u8]) -> Option<(u8, &[u8])>
-    ensures { option_map (λ x. (x.0, x.1.now)) result ≡ uncons bytes.now }
-{
-    match bytes {
-        [] => None,
-        [byte, rest @ ..] => Some((*byte, rest)),
-    }
-}
-
 /// The bytes up to the first below 128, of at most five.
 #[tactic(auto, unfolding(crate::specs::ReadingNumbers::found_at))]
-fn sevens_at(bytes: &[u8]) -> Option<(Sevens, &[u8])>
+pub(crate) fn sevens_at(bytes: &[u8]) -> Option<(Sevens, &[u8])>
     ensures small { IfSome result (λ x. (x.0.sum < x.0.weight) × (x.0.weight ≤ 2 ^ 35)) }
     ensures found { option_map (λ x. (sevens_of x.0, x.1.now)) result ≡ found_at MOST_BYTES bytes.now }
 {
@@ -117,23 +107,11 @@ fn wide_signed(found: &WideSevens) -> i128
     }
 }
 
-/// An unsigned number of 32 bits at the front, and the bytes after it.
-#[tactic(auto, unfolding(crate::specs::ReadingNumbers::unsigned_at))]
-pub fn u32_at(bytes: &[u8]) -> Option<(u32, &[u8])>
-    ensures { ok_or (option_map (λ x. (x.0, x.1.now)) result) Bad ≡ unsigned_at 32 bytes.now }
-{
-    let (found, rest) = sevens_at(bytes)?;
-    match u32::try_from(found.sum) {
-        Ok(number) => Some((number, rest)),
-        Err(_) => None,
-    }
-}
-
 impl<'d> Cursor<'d> {
     fn long_u32(&mut self) -> Result<u32, ReadError>
         ensures { Reads (unsigned_at 32) (λ x. x) self.old.rest.now self.new.rest.now result }
     {
-        let Some((number, rest)) = u32_at(self.rest) else {
+        let Some((number, rest)) = long_u32_at(self.rest) else {
             return Err(ReadError::Malformed);
         };
         self.rest = rest;

@@ -6,9 +6,9 @@ ghost use Rattle.form_reader.specs.Reading.{Reads};
 ghost use Rattle.form_reader.specs.ReadingNumbers.{unsigned_at, signed_at};
 ghost use Rattle.form_reader.specs.ExpressionLaws.{expression_at};
 
+use crate::bytes::first_byte;
 use crate::cursor::Cursor;
 use crate::error::ReadError;
-use crate::numbers::first_byte;
 use crate::operators::{END, I32_CONST};
 use std::alloc::{AllocError, Global};
 use wasm_spec::Operator;

@@ -4,8 +4,7 @@ ghost use Rattle.std.specs.Prelude.{◌≡◌, length, drop};
 ghost use Rattle.std.specs.Option.{option_map};
 ghost use Rattle.form_reader.specs.TypeBytes.{section_bytes_at, contents_of, type_bytes};
 
-use crate::customs::counted_at;
-use crate::numbers::first_byte;
+use crate::bytes::{counted_bytes, first_byte};
 
 /// The id of the type section.
 const TYPES: u8 = 1;
@@ -51,6 +50,6 @@ fn section_at<'d>(bytes: &'d [u8]) -> Option<(u8, &'d [u8], &'d [u8])>
     ensures { option_map (λ x. (x.0, x.1.now, x.2.now)) result ≡ section_bytes_at bytes.now }
 {
     let (id, rest) = first_byte(bytes)?;
-    let (contents, others) = counted_at(rest)?;
+    let (contents, others) = counted_bytes(rest)?;
     Some((id, contents, others))
 }

@@ -5,9 +5,9 @@ ghost use Rattle.form_reader.specs.Reading.{Reads, and_then, elements_at};
 ghost use Rattle.form_reader.specs.ReadingNumbers.{vector_at};
 ghost use Rattle.form_reader.specs.TypeRows.{value_type};
 
+use crate::bytes::first_byte;
 use crate::cursor::Cursor;
 use crate::error::ReadError;
-use crate::numbers::first_byte;
 use crate::value_types::number_type;
 use crate::vectors::MOST_ROOM;
 use std::alloc::{AllocError, Global};

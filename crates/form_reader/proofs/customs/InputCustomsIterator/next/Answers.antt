@@ -2,7 +2,7 @@ use Rattle.std.proofs.Common.{ap, arith, length, refl}
 use Rattle.form_reader.specs.Input.{custom_of}
 use Rattle.form_reader.specs.SectionRows.{custom_section}
 use Rattle.form_reader.proofs.Listed.{first_taken, none_there, none_taken}
-use Rattle.form_reader.proofs.CustomRuns.{was_read, was_not_read}
+use Rattle.form_reader.proofs.Taken.{was_read, was_not_read}
 use Rattle.form_reader.proofs.customs.InputCustomsIterator.next.Goals as goal
 
 pub returns-then-self-eq0-clause-steps : goal.returns-then-self-eq0-clause-steps
