@@ -1,26 +1,26 @@
 -- Elements up to a fault, as a loop reads them.
 use Rattle.std.proofs.Common.{◌≡◌, ℕ, suc, ◌-◌, ◌+◌, ◌<◌, ◌≤◌, List, [], ◌∷◌, ◌++◌, Option, Some, None, refl, sym, ap, ◌∙◌, append_assoc, arith}
+use Rattle.std.specs.Result.{result_ok}
 use Rattle.std.proofs.lemmas.List.{append-nil}
 use Rattle.form_reader.specs.ReadingNumbers.{unsigned_at}
-use Rattle.custom_sections.specs.Reading.{taken}
 use Rattle.custom_sections.specs.NameReading.{Partly, list_of, in_front, elements_before, counted_before, vector_before, naming_at, naming_before, names_before, locals_before, locals_behind, one_or_none}
-use Rattle.custom_sections.proofs.Takes.{read_from_taken, fault_from_none}
+use Rattle.form_reader.proofs.Taken.{was_read, was_not_read}
 
 -- ---- one element
 
 pub naming_is : (bytes : List ℕ) (x : ℕ × List ℕ) (rest : List ℕ)
-    → Some (x, rest) ≡ taken (naming_at bytes) → naming_before bytes ≡ (Some x, Some rest)
-naming_is bytes x rest e = ap one_or_none (read_from_taken (naming_at bytes) (x, rest) (sym e))
+    → Some (x, rest) ≡ result_ok (naming_at bytes) → naming_before bytes ≡ (Some x, Some rest)
+naming_is bytes x rest e = ap one_or_none (was_read (x, rest) (naming_at bytes) e)
 
-pub naming_none : (bytes : List ℕ) → None ≡ taken (naming_at bytes) → naming_before bytes ≡ (None, None)
-naming_none bytes e = ap one_or_none (fault_from_none (naming_at bytes) (sym e)).1
+pub naming_none : (bytes : List ℕ) → None ≡ result_ok (naming_at bytes) → naming_before bytes ≡ (None, None)
+naming_none bytes e = ap one_or_none (was_not_read (naming_at bytes) e).1
 
-pub locals_are : (bytes : List ℕ) (function : ℕ) (rest : List ℕ) → Some (function, rest) ≡ taken (unsigned_at 32 bytes)
+pub locals_are : (bytes : List ℕ) (function : ℕ) (rest : List ℕ) → Some (function, rest) ≡ result_ok (unsigned_at 32 bytes)
     → locals_before bytes ≡ (Some (function, (names_before rest).0), (names_before rest).1)
-locals_are bytes function rest e = ap locals_behind (read_from_taken (unsigned_at 32 bytes) (function, rest) (sym e))
+locals_are bytes function rest e = ap locals_behind (was_read (function, rest) (unsigned_at 32 bytes) e)
 
-pub locals_none : (bytes : List ℕ) → None ≡ taken (unsigned_at 32 bytes) → locals_before bytes ≡ (None, None)
-locals_none bytes e = ap locals_behind (fault_from_none (unsigned_at 32 bytes) (sym e)).1
+pub locals_none : (bytes : List ℕ) → None ≡ result_ok (unsigned_at 32 bytes) → locals_before bytes ≡ (None, None)
+locals_none bytes e = ap locals_behind (was_not_read (unsigned_at 32 bytes) e).1
 
 -- ---- many
 
@@ -32,14 +32,14 @@ module _ {A : Type 0} (part : Partly A) where
   abbrev pub still : List A → ℕ → List ℕ → List A × Option (List ℕ)
   still front n bytes = in_front front (elements_before part n bytes)
 
-  pub at_start : (front : List A) (count : ℕ) (rest bytes : List ℕ) → Some (count, rest) ≡ taken (unsigned_at 32 bytes)
+  pub at_start : (front : List A) (count : ℕ) (rest bytes : List ℕ) → Some (count, rest) ≡ result_ok (unsigned_at 32 bytes)
       → still front (count - 0) rest ≡ in_front front (vector_before part bytes)
   unfolding vector_before
-  at_start front count rest bytes e = grind (arith, read_from_taken)
+  at_start front count rest bytes e = grind (arith, was_read)
 
-  pub no_count : (bytes : List ℕ) → None ≡ taken (unsigned_at 32 bytes) → vector_before part bytes ≡ ([], None)
+  pub no_count : (bytes : List ℕ) → None ≡ result_ok (unsigned_at 32 bytes) → vector_before part bytes ≡ ([], None)
   unfolding vector_before
-  no_count bytes e = let f = fault_from_none (unsigned_at 32 bytes) (sym e) in ap (counted_before part) f.1
+  no_count bytes e = let f = was_not_read (unsigned_at 32 bytes) e in ap (counted_before part) f.1
 
   more_is : (front : List A) (n : ℕ) (bytes : List ℕ) (x : A) (rest : List ℕ) → part bytes ≡ (Some x, Some rest)
       → still front (suc n) bytes ≡ still (front ++ x ∷ []) n rest
@@ -74,6 +74,6 @@ module _ {A : Type 0} (part : Partly A) where
   is_done front count i bytes total le h = grind (arith, done_is)
 
 pub local_step : (bytes : List ℕ) (function : ℕ) (rest : List ℕ) (names : List (ℕ × List ℕ)) (after : Option (List ℕ))
-    → Some (function, rest) ≡ taken (unsigned_at 32 bytes) → names ≡ (names_before rest).0 → after ≡ (names_before rest).1
+    → Some (function, rest) ≡ result_ok (unsigned_at 32 bytes) → names ≡ (names_before rest).0 → after ≡ (names_before rest).1
     → locals_before bytes ≡ (Some (function, names), after)
 local_step bytes function rest names after e n a = rw (n, a) (locals_are bytes function rest e)

@@ -1,5 +1,3 @@
-pub mod Takes
-pub mod Shorts
 pub mod HintLaws
 pub mod Elements
 pub mod Before

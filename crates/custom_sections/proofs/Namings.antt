@@ -1,6 +1,7 @@
 -- Namings as they are read and told, and the bytes of a subsection.
 use Rattle.std.proofs.Common.{◌≡◌, ℕ, List, [], ◌∷◌, ◌++◌, true, Option, Some, None, Ok, Err, Result, refl, sym, ap, subst, ◌∙◌, append_assoc, inl, inr}
 use Rattle.std.specs.Prelude.{◌⊎◌, length}
+use Rattle.std.specs.Result.{result_ok}
 use Rattle.std.proofs.lemmas.List.{append-nil, nil_from_length}
 use Rattle.std.proofs.lemmas.Bool.{eqb-true}
 use Rattle.wasm_spec.specs.Parts.{Part, ◌>>=◌, gives, unsigned, first_byte, sized, counted_bytes}
@@ -8,7 +9,6 @@ use Rattle.form_reader.specs.Reading.{Fault}
 use Rattle.form_reader.specs.ReadingNumbers.{unsigned_at, counted_bytes_at}
 use Rattle.form_reader.specs.Agrees.{step_ok, ok_is}
 use Rattle.form_reader.specs.NumberLaws.{unsigned_agrees, counted_bytes_agree}
-use Rattle.custom_sections.specs.Reading.{taken}
 use Rattle.custom_sections.specs.NameGrammar.{naming, local_naming}
 use Rattle.custom_sections.specs.NameReading.{naming_at, naming_before, names_before, one_or_none, locals_before, locals_behind, of_function, is_filled, sized_subsection_at}
 use Rattle.custom_sections.specs.CutNames.{tells_nothing, namings_told, cut_local_naming}
@@ -81,7 +81,7 @@ local_step bytes = by (unsigned_at 32 bytes) refl where
     value = None;
     reads = ap locals_behind e;
     told = cut_only number_at (unsigned 32) number_again (λ outer. namings_told >>= λ names. gives ((outer, names) ∷ [])) tells_nothing
-        bytes [] (ap taken e) (only_all (λ bytes. []) bytes);
+        bytes [] (ap result_ok e) (only_all (λ bytes. []) bytes);
   })
 
 -- ---- all bytes of a subsection

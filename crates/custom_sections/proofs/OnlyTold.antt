@@ -1,15 +1,15 @@
 -- Parts that tell one value of any bytes, and ways to combine them.
 use Rattle.std.proofs.Common.{◌≡◌, ℕ, zero, suc, List, [], ◌∷◌, ◌++◌, Option, Some, None, Ok, Err, Result, refl, sym, ap, subst, ◌∙◌, append_assoc, inl, inr}
 use Rattle.std.specs.Prelude.{◌⊎◌}
+use Rattle.std.specs.Result.{result_ok}
 use Rattle.std.proofs.lemmas.List.{append-nil}
 use Rattle.wasm_spec.specs.Parts.{Part, ◌>>=◌, Joined, gives, unsigned, elements, vector, all_bytes_as}
 use Rattle.form_reader.specs.Reading.{Fault}
 use Rattle.form_reader.specs.ReadingNumbers.{unsigned_at}
 use Rattle.form_reader.specs.NumberLaws.{unsigned_agrees}
-use Rattle.custom_sections.specs.Reading.{taken}
 use Rattle.custom_sections.specs.CutNames.{otherwise, tells_nothing, elements_told, vector_told}
 use Rattle.custom_sections.specs.NameReading.{Partly, list_of, go_on, elements_before, counted_before, vector_before}
-use Rattle.custom_sections.proofs.Takes.{some_is, none_is}
+use Rattle.std.proofs.lemmas.Option.{none-some, same_Some}
 use Rattle.custom_sections.proofs.NameSpellings.{made}
 
 -- the bytes spell this value of the part and no other
@@ -34,7 +34,7 @@ only_made part f bytes x o = record {
 
 pair_is : {A : Type 0} (x y : A) (b c : List ℕ) → ◌≡◌ {A = Option (A × List ℕ)} (Some (x, b)) (Some (y, c)) → (x ≡ y) × (b ≡ c)
 pair_is {A} x y b c e =
-    let same = some_is {A = A × List ℕ} (x, b) (y, c) e in (ap (λ (q : A × List ℕ). q.0) same, ap (λ (q : A × List ℕ). q.1) same)
+    let same = same_Some {A = A × List ℕ} (x, b) (y, c) e in (ap (λ (q : A × List ℕ). q.0) same, ap (λ (q : A × List ℕ). q.1) same)
 
 -- the part is read as it is spelled, whatever follows
 module _ {A : Type 0} (read : List ℕ → Option (A × List ℕ)) (g : Part A)
@@ -59,7 +59,7 @@ module _ {A : Type 0} (read : List ℕ → Option (A × List ℕ)) (g : Part A)
   pub cut_only : {B : Type 0} (h : A → Part B) (cut : Part B) (bytes : List ℕ) (y : B) → read bytes ≡ None → Only cut bytes y → Only (otherwise (g >>= h) cut) bytes y
   cut_only {B} h cut bytes y none o = record { spelled = inr (not, o.spelled); only = by } where
     not : (z : B) → Joined g h bytes z → ⊥
-    not z t = none_is (t.value, t.back) (sym none ∙ again_at bytes t.front t.back t.value t.parts t.is_first)
+    not z t = none-some (t.value, t.back) (sym none ∙ again_at bytes t.front t.back t.value t.parts t.is_first)
 
     by : (z : B) → (otherwise (g >>= h) cut).spells bytes z → z ≡ y
     by z (inl t) = absurd (not z t)
@@ -68,10 +68,10 @@ module _ {A : Type 0} (read : List ℕ → Option (A × List ℕ)) (g : Part A)
 -- ---- numbers
 
 abbrev pub number_at : List ℕ → Option (ℕ × List ℕ)
-number_at bytes = taken (unsigned_at 32 bytes)
+number_at bytes = result_ok (unsigned_at 32 bytes)
 
 pub number_again : (front : List ℕ) (n : ℕ) (rest : List ℕ) → (unsigned 32).spells front n → number_at (front ++ rest) ≡ Some (n, rest)
-number_again front n rest s = ap taken ((unsigned_agrees 32).again front n rest s)
+number_again front n rest s = ap result_ok ((unsigned_agrees 32).again front n rest s)
 
 -- ---- elements
 
@@ -151,7 +151,7 @@ module _ {A : Type 0} (p : Partly A) (g : Part A) (cut : Part (List A))
                 record { value = (elements_before p n w.rest).0; front = m.0; back = []; parts = sym (append-nil m.0); is_first = m.2; is_second = (refl, refl) };
           },
         ))
-    by more (inr c) = rw c.reads (λ e. absurd (none_is rest e))
+    by more (inr c) = rw c.reads (λ e. absurd (none-some rest e))
 
   -- ---- a count, and elements
 
@@ -162,7 +162,7 @@ module _ {A : Type 0} (p : Partly A) (g : Part A) (cut : Part (List A))
     by (Ok count) e =
         let f = (unsigned_agrees 32).found bytes count.0 count.1 e in
         front_only number_at (unsigned 32) number_again (λ n. elements_told g cut n) tells_nothing bytes f.0 count.1 count.0 _ f.1 f.2 (elements_only count.0 count.1)
-    by (Err fault) e = cut_only number_at (unsigned 32) number_again (λ n. elements_told g cut n) tells_nothing bytes [] (ap taken e) (only_all (λ bytes. []) bytes)
+    by (Err fault) e = cut_only number_at (unsigned 32) number_again (λ n. elements_told g cut n) tells_nothing bytes [] (ap result_ok e) (only_all (λ bytes. []) bytes)
 
   pub vector_spelled : (bytes rest : List ℕ) → (vector_before p bytes).1 ≡ Some rest
       → (front : List ℕ) × (bytes ≡ front ++ rest) × (vector g).spells front (vector_before p bytes).0
@@ -177,4 +177,4 @@ module _ {A : Type 0} (p : Partly A) (g : Part A) (cut : Part (List A))
           f.1 ∙ ap (λ (l : List ℕ). f.0 ++ l) m.1 ∙ sym (append_assoc f.0 m.0 rest),
           record { value = count.0; front = f.0; back = m.0; parts = refl; is_first = f.2; is_second = m.2 },
         )
-    by (Err fault) e l = absurd (none_is rest l)
+    by (Err fault) e l = absurd (none-some rest l)

@@ -1,13 +1,13 @@
 -- What the names of a subsection add.
 use Rattle.std.proofs.Common.{◌≡◌, ℕ, ◌≤◌, List, ◌++◌, Bool, true, false, Option, Some, None, refl, sym, ap, ◌∙◌, arith, eqb}
+use Rattle.std.specs.Result.{result_ok}
 use Rattle.std.proofs.lemmas.List.{append-nil}
 use Rattle.std.proofs.lemmas.Bool.{ne_eqb}
 use Rattle.form_reader.specs.Reading.{whole}
 use Rattle.form_reader.specs.ReadingNumbers.{name_at}
-use Rattle.custom_sections.specs.Reading.{taken}
 use Rattle.custom_sections.specs.NameLists.{NameLists, no_names, joined}
 use Rattle.custom_sections.specs.NameReading.{module_named, functions_named, locals_named, names_before, locals_before, vector_before, subsection}
-use Rattle.custom_sections.proofs.Takes.{read_from_taken, fault_from_none}
+use Rattle.form_reader.proofs.Taken.{was_read, was_not_read}
 use Rattle.custom_sections.proofs.Joining.{same_lists, joined_none}
 
 module _ (locals : Bool) (contents : List ℕ) where
@@ -15,12 +15,12 @@ module _ (locals : Bool) (contents : List ℕ) where
   unfolding subsection
   module_is = refl
 
-  pub no_module : None ≡ taken (whole name_at contents) → subsection locals 0 contents ≡ (no_names, false)
-  no_module e = module_is ∙ ap module_named (fault_from_none (whole name_at contents) (sym e)).1
+  pub no_module : None ≡ result_ok (whole name_at contents) → subsection locals 0 contents ≡ (no_names, false)
+  no_module e = module_is ∙ ap module_named (was_not_read (whole name_at contents) e).1
 
-  pub one_module : (text : List ℕ) → Some text ≡ taken (whole name_at contents)
+  pub one_module : (text : List ℕ) → Some text ≡ result_ok (whole name_at contents)
       → subsection locals 0 contents ≡ (record no_names { module_name = Some text }, true)
-  one_module text e = module_is ∙ ap module_named (read_from_taken (whole name_at contents) text (sym e))
+  one_module text e = module_is ∙ ap module_named (was_read text (whole name_at contents) e)
 
   pub functions_are : subsection locals 1 contents ≡ functions_named (names_before contents)
   unfolding subsection

@@ -2,15 +2,15 @@
 
 ghost use Rattle.std.specs.Prelude.{◌≡◌, ℕ, List, map, IfOk, IfSome, MatchOption};
 ghost use Rattle.std.specs.Option.{option_map};
+ghost use Rattle.std.specs.Result.{result_ok};
 ghost use Rattle.form_reader.specs.ReadingNumbers.{vector_at};
 ghost use Rattle.custom_sections.specs.declared.hints.Hint.{Hint};
-ghost use Rattle.custom_sections.specs.Reading.{taken};
 ghost use Rattle.custom_sections.specs.HintGrammar.{hint_section};
 ghost use Rattle.custom_sections.specs.HintReading.{hint_at, hint_entry_at, hints_of_section};
 ghost use Rattle.custom_sections.specs.Views.{hint_entry_of};
 
-use crate::parts::{first_byte, u32_at};
 use entity_map::OutOfMemory;
+use form_reader::u32_at;
 use std::alloc::Global;
 
 /// Whether a branch of a function is likely to be taken.
@@ -24,7 +24,7 @@ pub struct Hint {
 /// A hint, and the bytes after it.
 #[tactic(auto, unfolding(crate::specs::HintReading::hint_at))]
 fn one_hint(bytes: &[u8]) -> Option<(Hint, &[u8])>
-    ensures { option_map (λ x. (x.0, x.1.now)) result ≡ taken (hint_at bytes.now) }
+    ensures { option_map (λ x. (x.0, x.1.now)) result ≡ result_ok (hint_at bytes.now) }
 {
     let (func_offset, rest) = u32_at(bytes)?;
     match rest {
@@ -50,7 +50,7 @@ fn one_hint(bytes: &[u8]) -> Option<(Hint, &[u8])>
 ///
 /// The list grows as hints are read, since the count may be any number.
 fn hint_list(alloc: Global, bytes: &[u8]) -> Result<Option<(Vec<Hint>, &[u8])>, OutOfMemory>
-    ensures { IfOk result (λ o. option_map (λ x. (x.0.items, x.1.now)) o ≡ taken (vector_at hint_at bytes.now)) }
+    ensures { IfOk result (λ o. option_map (λ x. (x.0.items, x.1.now)) o ≡ result_ok (vector_at hint_at bytes.now)) }
 {
     let Some((count, mut rest)) = u32_at(bytes) else {
         return Ok(None);
@@ -72,7 +72,7 @@ fn entries(
     bytes: &[u8],
 ) -> Result<Option<(Vec<(u32, Vec<Hint>)>, &[u8])>, OutOfMemory>
     ensures { IfOk result (λ o. option_map (λ x. (map hint_entry_of x.0.items, x.1.now)) o
-        ≡ taken (vector_at hint_entry_at bytes.now)) }
+        ≡ result_ok (vector_at hint_entry_at bytes.now)) }
 {
     let Some((count, mut rest)) = u32_at(bytes) else {
         return Ok(None);

@@ -14,18 +14,20 @@
 //! Names are slices of the input. Lists grow as entries are read, so a large count alone allocates
 //! nothing.
 //!
-//! Read on: `names`, `hints`, `debug`; `module_customs` chooses the sections.
+//! Read on: `names`, `hints`, `debug`, and `name_parts`, which `name_maps` reads by too;
+//! `module_customs` chooses the sections.
 #![tactic(auto)]
 
 mod debug;
 mod hints;
 mod laws;
+mod name_parts;
 mod names;
-mod parts;
 mod worked;
 
 pub use debug::is_debug_name;
 pub use hints::{Hint, read_hints};
 pub use laws::{spelled_hints_are_read, spelled_names_are_read, told_names_are_read};
+pub use name_parts::{is_filled, naming, sized_subsection, whole_name};
 pub use names::{Names, read_names};
 pub use worked::{worked_cut_names, worked_debug_names, worked_hints, worked_names};

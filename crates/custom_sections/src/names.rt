@@ -2,16 +2,13 @@
 
 ghost use Rattle.std.specs.Prelude.{◌≡◌, ◌++◌, map, IfOk};
 ghost use Rattle.std.specs.Option.{option_map};
-ghost use Rattle.custom_sections.specs.Reading.{taken};
 ghost use Rattle.custom_sections.specs.Views.{text_of, locals_of, names_of};
-ghost use Rattle.custom_sections.specs.NameReading.{naming_at, names_before, locals_before, vector_before, sized_subsection_at};
 ghost use Rattle.custom_sections.specs.NameLists.{joined};
-ghost use Rattle.custom_sections.specs.NameReading.{subsection as subsection_names, is_filled as filled, names_of_section};
-ghost use Rattle.form_reader.specs.Reading.{whole};
-ghost use Rattle.form_reader.specs.ReadingNumbers.{name_at};
+ghost use Rattle.custom_sections.specs.NameReading.{names_before, locals_before, vector_before, subsection as subsection_names, names_of_section};
 
-use crate::parts::{counted_bytes, first_byte, name, u32_at};
+use crate::name_parts::{is_filled, naming, sized_subsection, whole_name};
 use entity_map::OutOfMemory;
+use form_reader::u32_at;
 use std::alloc::Global;
 
 /// A subsection with the name of the module.
@@ -31,17 +28,6 @@ pub struct Names<'d> {
     pub functions: Vec<(u32, &'d str)>,
     /// Functions, and the names of their locals by the locals' indices.
     pub locals: Vec<(u32, Vec<(u32, &'d str)>)>,
-}
-
-/// An index and its name, and the bytes after them.
-#[inline(always)]
-#[tactic(auto, unfolding(crate::specs::NameReading::naming_at))]
-fn naming(bytes: &[u8]) -> Option<((u32, &str), &[u8])>
-    ensures { option_map (λ x. (text_of x.0, x.1.now)) result ≡ taken (naming_at bytes.now) }
-{
-    let (index, rest) = u32_at(bytes)?;
-    let (name, rest) = name(rest)?;
-    Some(((index, name), rest))
 }
 
 /// Adds a count and that many names, up to a fault; the bytes after them, where there is none.
@@ -96,37 +82,6 @@ fn add_locals<'d>(
     Ok(Some(rest))
 }
 
-/// The id and the contents of a subsection, and the bytes after it.
-#[tactic(auto, unfolding(crate::specs::NameReading::sized_subsection_at))]
-fn subsection(bytes: &[u8]) -> Option<((u8, &[u8]), &[u8])>
-    ensures { option_map (λ x. ((x.0.0, x.0.1.now), x.1.now)) result ≡ taken (sized_subsection_at bytes.now) }
-{
-    let (id, rest) = first_byte(bytes)?;
-    let (contents, rest) = counted_bytes(rest)?;
-    Some(((id, contents), rest))
-}
-
-/// The name that fills some bytes.
-#[tactic(auto, unfolding(form_reader::specs::Reading::whole))]
-fn whole_name(bytes: &[u8]) -> Option<&str>
-    ensures { option_map (λ text. text.now) result ≡ taken (whole name_at bytes.now) }
-{
-    match name(bytes) {
-        Some((name, [])) => Some(name),
-        _ => None,
-    }
-}
-
-/// Whether there was no fault, and no byte remains.
-fn is_filled(rest: Option<&[u8]>) -> bool
-    ensures { result ≡ filled (option_map (λ bytes. bytes.now) rest.entry) }
-{
-    match rest {
-        Some(rest) => rest.is_empty(),
-        None => false,
-    }
-}
-
 impl<'d> Names<'d> {
     /// Adds the names of a subsection, those of locals where the caller requires them; returns
     /// whether they fill it.
@@ -174,7 +129,7 @@ pub fn read_names<'d>(
     };
     let mut rest = contents;
     'subsections: for _ in 0..contents.len() {
-        let Some(((id, body), after)) = subsection(rest) else {
+        let Some(((id, body), after)) = sized_subsection(rest) else {
             return Ok(names);
         };
         let filled = names.add(alloc, id, body, locals)?;

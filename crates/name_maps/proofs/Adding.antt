@@ -1,8 +1,8 @@
 -- What a loop adds, one element after another up to a fault.
 use Rattle.std.proofs.Common.{◌≡◌, ℕ, ◌-◌, ◌+◌, ◌<◌, ◌≤◌, List, [], ◌∷◌, ◌++◌, map, Option, Some, None, sym, ap, ◌∙◌, append_assoc, arith}
+use Rattle.std.specs.Result.{result_ok}
 use Rattle.std.proofs.lemmas.List.{append-nil, map-append, flat_map_more}
 use Rattle.form_reader.specs.ReadingNumbers.{unsigned_at}
-use Rattle.custom_sections.specs.Reading.{taken}
 use Rattle.custom_sections.specs.NameReading.{Partly, in_front, elements_before, vector_before}
 use Rattle.custom_sections.proofs.Before as before
 use Rattle.custom_sections.proofs.Before.{still, ended}
@@ -34,7 +34,7 @@ module _ {A : Type 0} (part : Partly A) (g : List A → List Entry) (old : List 
     none_added = sym (append-nil old) ∙ ap (λ (l : List Entry). old ++ l) (sym nil)
 
     -- a vector without a count
-    pub no_count : (bytes : List ℕ) → None ≡ taken (unsigned_at 32 bytes) → Added g old old None (vector_before part bytes)
+    pub no_count : (bytes : List ℕ) → None ≡ result_ok (unsigned_at 32 bytes) → Added g old old None (vector_before part bytes)
     no_count bytes e =
         let none = before.no_count part bytes e in
         record {
@@ -42,7 +42,7 @@ module _ {A : Type 0} (part : Partly A) (g : List A → List Entry) (old : List 
           left = ap (λ (r : List A × Option (List ℕ)). r.1) (sym none);
         }
 
-    pub at_start : (count : ℕ) (rest bytes : List ℕ) → Some (count, rest) ≡ taken (unsigned_at 32 bytes)
+    pub at_start : (count : ℕ) (rest bytes : List ℕ) → Some (count, rest) ≡ result_ok (unsigned_at 32 bytes)
         → Adds part g old old (count - 0) rest (vector_before part bytes)
     at_start count rest bytes e = record { read = []; entries = none_added; left = before.at_start part [] count rest bytes e }
 

@@ -1,6 +1,7 @@
 -- The entries that a name section tells are those that are read of it.
 use Rattle.std.proofs.Common.{◌≡◌, ℕ, List, [], ◌∷◌, ◌++◌, Bool, true, false, cond, Option, Some, None, Ok, Err, Result, refl, sym, ap, ◌∙◌, inl, inr}
 use Rattle.std.specs.Prelude.{◌⊎◌, ◌==◌, length}
+use Rattle.std.specs.Result.{result_ok}
 use Rattle.std.proofs.lemmas.List.{append-nil}
 use Rattle.wasm_spec.specs.Parts.{Part, ◌>>=◌, gives, vector, choose, first_byte, all_bytes_as, sized, counted_bytes}
 use Rattle.wasm_spec.specs.Grammar.{name}
@@ -8,7 +9,6 @@ use Rattle.form_reader.specs.Reading.{Fault, whole}
 use Rattle.form_reader.specs.ReadingNumbers.{name_at}
 use Rattle.form_reader.specs.Agrees.{whole_fills}
 use Rattle.form_reader.specs.SectionRows.{name_agrees}
-use Rattle.custom_sections.specs.Reading.{taken}
 use Rattle.custom_sections.specs.NameGrammar.{naming, name_map, local_naming}
 use Rattle.custom_sections.specs.NameReading.{Partly, elements_before, naming_before, names_before, locals_before, vector_before, sized_subsection_at}
 use Rattle.custom_sections.specs.CutNames.{tells_nothing, elements_told, vector_told, namings_told, cut_local_naming}
@@ -196,10 +196,10 @@ subsections_only n bytes =
 -- ---- a name section
 
 abbrev title_at : List ℕ → Option (List ℕ × List ℕ)
-title_at bytes = taken (name_at bytes)
+title_at bytes = result_ok (name_at bytes)
 
 title_again : (front title rest : List ℕ) → name.spells front title → title_at (front ++ rest) ≡ Some (title, rest)
-title_again front title rest s = ap taken (name_agrees.again front title rest s)
+title_again front title rest s = ap result_ok (name_agrees.again front title rest s)
 
 -- its entries are told where it begins with a name
 pub section_only : (contents front title rest : List ℕ) → contents ≡ front ++ rest → name.spells front title

@@ -1,12 +1,12 @@
 -- The contents of a subsection, by its id.
 use Rattle.std.proofs.Common.{◌≡◌, ℕ, ◌≤◌, ◌<◌, List, [], ◌∷◌, ◌++◌, Bool, true, false, Option, Some, None, refl, sym, ap, ◌∙◌}
+use Rattle.std.specs.Result.{result_ok}
 use Rattle.std.proofs.lemmas.List.{append-nil}
 use Rattle.std.proofs.lemmas.Bool.{ne_eqb, le-leb, lt-leb}
 use Rattle.form_reader.specs.Reading.{whole}
 use Rattle.form_reader.specs.ReadingNumbers.{name_at}
-use Rattle.custom_sections.specs.Reading.{taken}
 use Rattle.custom_sections.specs.NameReading.{names_before, locals_before, vector_before, sized_subsection_at}
-use Rattle.custom_sections.proofs.Takes.{read_from_taken, fault_from_none}
+use Rattle.form_reader.proofs.Taken.{was_read, was_not_read}
 use Rattle.name_maps.specs.Entries.{Entry, module_entry}
 use Rattle.name_maps.specs.NameMaps.{is_indirect}
 use Rattle.name_maps.specs.Reading.{left_of, contents_read, module_read, map_read, indirect_read, sized_read, subsection_before}
@@ -28,11 +28,11 @@ module _ (id : ℕ) (contents : List ℕ) where
   unfolding contents_read
   skipped other e lt = rw (ne_eqb id 0 other, e, lt-leb id 11 lt) refl
 
-  pub no_module : id ≡ 0 → None ≡ taken (whole name_at contents) → contents_read id contents ≡ ([], false)
-  no_module e none = module_is e ∙ ap (module_read id) (fault_from_none (whole name_at contents) (sym none)).1
+  pub no_module : id ≡ 0 → None ≡ result_ok (whole name_at contents) → contents_read id contents ≡ ([], false)
+  no_module e none = module_is e ∙ ap (module_read id) (was_not_read (whole name_at contents) none).1
 
-  pub one_module : (text : List ℕ) → id ≡ 0 → Some text ≡ taken (whole name_at contents) → contents_read id contents ≡ (module_entry id text ∷ [], true)
-  one_module text e some = module_is e ∙ ap (module_read id) (read_from_taken (whole name_at contents) text (sym some))
+  pub one_module : (text : List ℕ) → id ≡ 0 → Some text ≡ result_ok (whole name_at contents) → contents_read id contents ≡ (module_entry id text ∷ [], true)
+  one_module text e some = module_is e ∙ ap (module_read id) (was_read text (whole name_at contents) some)
 
 -- ---- what is added, and whether there was no fault
 
@@ -50,11 +50,11 @@ filled_as read other e = ap (λ (r : List Entry × Bool). r.1) (sym e)
 abbrev Some_of : List Entry → Option (List ℕ) → Option (List Entry) × Option (List ℕ)
 Some_of entries rest = (Some entries, rest)
 
-pub no_subsection : (bytes : List ℕ) → None ≡ taken (sized_subsection_at bytes) → subsection_before bytes ≡ (None, None)
-no_subsection bytes e = ap sized_read (fault_from_none (sized_subsection_at bytes) (sym e)).1
+pub no_subsection : (bytes : List ℕ) → None ≡ result_ok (sized_subsection_at bytes) → subsection_before bytes ≡ (None, None)
+no_subsection bytes e = ap sized_read (was_not_read (sized_subsection_at bytes) e).1
 
-pub one_subsection : (bytes : List ℕ) (id : ℕ) (contents rest : List ℕ) (filled : Bool) → Some ((id, contents), rest) ≡ taken (sized_subsection_at bytes)
+pub one_subsection : (bytes : List ℕ) (id : ℕ) (contents rest : List ℕ) (filled : Bool) → Some ((id, contents), rest) ≡ result_ok (sized_subsection_at bytes)
     → (contents_read id contents).1 ≡ filled → subsection_before bytes ≡ (Some (contents_read id contents).0, left_of filled rest)
 one_subsection bytes id contents rest filled e is =
-    ap sized_read (read_from_taken (sized_subsection_at bytes) ((id, contents), rest) (sym e))
+    ap sized_read (was_read ((id, contents), rest) (sized_subsection_at bytes) e)
     ∙ ap (λ b. Some_of (contents_read id contents).0 (left_of b rest)) is

@@ -1,4 +1,3 @@
-pub mod Missing
 pub mod Adding
 pub mod Contents
 pub mod AsRead

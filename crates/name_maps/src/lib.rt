@@ -23,7 +23,6 @@
 mod entry;
 mod maps;
 mod name_sections;
-mod parts;
 mod subsections;
 mod worked;
 

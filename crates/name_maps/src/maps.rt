@@ -6,8 +6,9 @@ ghost use Rattle.custom_sections.specs.NameReading.{names_before, locals_before,
 ghost use Rattle.name_maps.specs.Entries.{entry_of, entry_in, indirect_entries};
 
 use crate::entry::{NameEntry, entry};
-use crate::parts::{naming, u32_at};
+use custom_sections::naming;
 use entity_map::OutOfMemory;
+use form_reader::u32_at;
 
 /// Adds the entries of a name map, up to a fault; the bytes after the map, where it has none. With
 /// an outer index it is the map of that index.
@@ -23,11 +24,11 @@ pub(crate) fn add_map<'d>(
         ≡ map entry_of entries.old.items ++ map (entry_in subsection outer) (names_before bytes.now).0) }
     ensures left { IfOk result (λ rest. option_map (λ bytes. bytes.now) rest ≡ (names_before bytes.now).1) }
 {
-    let Some((count, mut rest)) = u32_at(bytes)? else {
+    let Some((count, mut rest)) = u32_at(bytes) else {
         return Ok(None);
     };
     'names: for _ in 0..count {
-        let Some(((index, name), after)) = naming(rest)? else {
+        let Some(((index, name), after)) = naming(rest) else {
             return Ok(None);
         };
         entries.push(entry(subsection, outer, index, name))?;
@@ -46,11 +47,11 @@ pub(crate) fn add_indirect_map<'d>(
         ≡ map entry_of entries.old.items ++ indirect_entries subsection (vector_before locals_before bytes.now).0) }
     ensures left { IfOk result (λ rest. option_map (λ bytes. bytes.now) rest ≡ (vector_before locals_before bytes.now).1) }
 {
-    let Some((count, mut rest)) = u32_at(bytes)? else {
+    let Some((count, mut rest)) = u32_at(bytes) else {
         return Ok(None);
     };
     'maps: for _ in 0..count {
-        let Some((outer, map)) = u32_at(rest)? else {
+        let Some((outer, map)) = u32_at(rest) else {
             return Ok(None);
         };
         let Some(after) = add_map(entries, subsection, Some(outer), map)? else {

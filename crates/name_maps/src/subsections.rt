@@ -1,32 +1,21 @@
 //! The entries of the subsections of a name section.
 
-ghost use Rattle.std.specs.Prelude.{◌≡◌, ◌++◌, ◌==◌, map, length, IfOk};
-ghost use Rattle.std.specs.Option.{option_map};
-ghost use Rattle.custom_sections.specs.NameReading.{is_filled as filled};
+ghost use Rattle.std.specs.Prelude.{◌≡◌, ◌++◌, map, IfOk};
 ghost use Rattle.name_maps.specs.Entries.{entry_of};
 ghost use Rattle.name_maps.specs.NameMaps.{is_indirect as indirect};
 ghost use Rattle.name_maps.specs.Reading.{contents_read, subsections_before, section_entries};
 
 use crate::entry::{FIELDS, LABELS, LOCALS, MODULE, NameEntry, TAGS, entry};
 use crate::maps::{add_indirect_map, add_map};
-use crate::parts::{name_at, sized_subsection, whole_name};
+use custom_sections::{is_filled, sized_subsection, whole_name};
 use entity_map::OutOfMemory;
+use form_reader::name;
 
 /// Whether the names of a subsection are those of locals, labels or fields.
 fn is_indirect(subsection: u8) -> bool
     ensures { result ≡ indirect subsection }
 {
     subsection == LOCALS || subsection == LABELS || subsection == FIELDS
-}
-
-/// Whether there was no fault, and no byte remains.
-fn is_filled(rest: Option<&[u8]>) -> bool
-    ensures { result ≡ filled (option_map (λ bytes. bytes.now) rest.entry) }
-{
-    match rest {
-        Some(rest) => rest.is_empty(),
-        None => false,
-    }
 }
 
 /// Adds the entries of a subsection, up to a fault; returns whether they fill it. One of an id above
@@ -41,7 +30,7 @@ fn add_contents<'d>(
     ensures filled { IfOk result (λ filled. filled ≡ (contents_read subsection contents.now).1) }
 {
     if subsection == MODULE {
-        let Some(name) = whole_name(contents)? else {
+        let Some(name) = whole_name(contents) else {
             return Ok(false);
         };
         entries.push(entry(subsection, None, 0, name))?;
@@ -66,7 +55,7 @@ fn add_subsections<'d>(
 {
     let mut rest = bytes;
     'subsections: for _ in 0..most {
-        let Some(((id, contents), after)) = sized_subsection(rest)? else {
+        let Some(((id, contents), after)) = sized_subsection(rest) else {
             return Ok(());
         };
         let filled = add_contents(entries, id, contents)?;
@@ -86,7 +75,7 @@ pub(crate) fn add_section<'d>(
 ) -> Result<(), OutOfMemory>
     ensures { IfOk result (λ _. map entry_of entries.new.items ≡ map entry_of entries.old.items ++ section_entries contents.now) }
 {
-    let Some((_title, subsections)) = name_at(contents)? else {
+    let Some((_title, subsections)) = name(contents) else {
         return Ok(());
     };
     add_subsections(entries, contents.len(), subsections)

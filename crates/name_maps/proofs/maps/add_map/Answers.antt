@@ -11,42 +11,42 @@ in_map id outer names = map (entry_in id outer) names
 pub returns-in_default-clause-added : goal.returns-in_default-clause-added
 returns-in_default-clause-added c =
     (no_count naming_before (in_map c.args.subsection c.args.outer) (map entry_of c.args.entries.now.items) refl c.args.bytes.now
-    (rw c.in_default.is at c.in_ok-count.ensures)).entries
+    c.in_default.ensures).entries
 
 pub returns-in_default-clause-left : goal.returns-in_default-clause-left
 returns-in_default-clause-left c =
     (no_count naming_before (in_map c.args.subsection c.args.outer) (map entry_of c.args.entries.now.items) refl c.args.bytes.now
-    (rw c.in_default.is at c.in_ok-count.ensures)).left
+    c.in_default.ensures).left
 
 pub names-init : goal.names-init
 names-init c =
     at_start naming_before (in_map c.args.subsection c.args.outer) (map entry_of c.args.entries.now.items) refl c.in-Some.count c.in-Some.rest.now
-    c.args.bytes.now (rw c.in-Some.is at c.in_ok-count.ensures)
+    c.args.bytes.now c.in-Some.ensures
 
-pub returns-in_default-2-clause-added : goal.returns-in_default-2-clause-added
-returns-in_default-2-clause-added c =
+pub returns-in_default-naming-clause-added : goal.returns-in_default-naming-clause-added
+returns-in_default-naming-clause-added c =
     (fails naming_before (in_map c.args.subsection c.args.outer) (map entry_of c.args.entries.now.items) (map entry_of c.names.entries.items)
     c.in-Some.count c.names.counter c.names.rest.now _ c.names-test.true
-    (naming_none c.names.rest.now (rw c.in_default-2.is at c.in_ok-index.ensures)) c.names.invariant).entries
+    (naming_none c.names.rest.now c.in_default-naming.ensures) c.names.invariant).entries
 
-pub returns-in_default-2-clause-left : goal.returns-in_default-2-clause-left
-returns-in_default-2-clause-left c =
+pub returns-in_default-naming-clause-left : goal.returns-in_default-naming-clause-left
+returns-in_default-naming-clause-left c =
     (fails naming_before (in_map c.args.subsection c.args.outer) (map entry_of c.args.entries.now.items) (map entry_of c.names.entries.items)
     c.in-Some.count c.names.counter c.names.rest.now _ c.names-test.true
-    (naming_none c.names.rest.now (rw c.in_default-2.is at c.in_ok-index.ensures)) c.names.invariant).left
+    (naming_none c.names.rest.now c.in_default-naming.ensures) c.names.invariant).left
 
 pub names-preserved : goal.names-preserved
 names-preserved c =
     let id = c.args.subsection in
     let outer = c.args.outer in
     let old = map entry_of c.args.entries.now.items in
-    let x : ℕ × List ℕ = (c.in-Some-2.index, c.in-Some-2.name.now) in
-    let read = naming_is c.names.rest.now x c.in-Some-2.after.now (rw c.in-Some-2.is at c.in_ok-index.ensures) in
+    let x : ℕ × List ℕ = (c.in-Some-naming.index, c.in-Some-naming.name.now) in
+    let read = naming_is c.names.rest.now x c.in-Some-naming.after.now c.in-Some-naming.ensures in
     let pushed = entry_pushed c.names.entries.items c.push.new.self.items c.entry.result (entry_in id outer x) c.in_ok-push.ensures.items c.entry.ensures in
     let now = more naming_before (in_map id outer) old (λ y. entry_in id outer y ∷ []) (map_push id outer) (map entry_of c.names.entries.items) c.in-Some.count
-    c.names.counter c.names.rest.now x c.in-Some-2.after.now _ c.names-test.true read c.names.invariant in
+    c.names.counter c.names.rest.now x c.in-Some-naming.after.now _ c.names-test.true read c.names.invariant in
     subst (λ (l : List Entry).
-    Adds naming_before (in_map id outer) old l (c.in-Some.count - (c.names.counter + 1)) c.in-Some-2.after.now (names_before c.args.bytes.now)) (sym pushed) now
+    Adds naming_before (in_map id outer) old l (c.in-Some.count - (c.names.counter + 1)) c.in-Some-naming.after.now (names_before c.args.bytes.now)) (sym pushed) now
 
 pub returns-clause-added : goal.returns-clause-added
 returns-clause-added c =

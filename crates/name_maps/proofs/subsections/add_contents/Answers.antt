@@ -8,24 +8,24 @@ use Rattle.name_maps.proofs.subsections.add_contents.Goals as goal
 pub returns-in_default-clause-added : goal.returns-in_default-clause-added
 returns-in_default-clause-added c =
     nothing_more (map entry_of c.args.entries.now.items) (contents_read c.args.subsection c.args.contents.now) false
-    (no_module c.args.subsection c.args.contents.now c.if-subsection-eq-MODULE.true (rw c.in_default.is at c.in_ok-name.ensures))
+    (no_module c.args.subsection c.args.contents.now c.if-subsection-eq-MODULE.true c.in_default.ensures)
 
 pub returns-in_default-clause-filled : goal.returns-in_default-clause-filled
 returns-in_default-clause-filled c =
     filled_as (contents_read c.args.subsection c.args.contents.now) _
-    (no_module c.args.subsection c.args.contents.now c.if-subsection-eq-MODULE.true (rw c.in_default.is at c.in_ok-name.ensures))
+    (no_module c.args.subsection c.args.contents.now c.if-subsection-eq-MODULE.true c.in_default.ensures)
 
 pub returns-then-subsection-eq-MODULE-clause-added : goal.returns-then-subsection-eq-MODULE-clause-added
 returns-then-subsection-eq-MODULE-clause-added c =
     added_as (map entry_of c.args.entries.now.items) (map entry_of c.push.new.self.items) (contents_read c.args.subsection c.args.contents.now) _
-    (one_module c.args.subsection c.args.contents.now c.in-Some.name.now c.if-subsection-eq-MODULE.true (rw c.in-Some.is at c.in_ok-name.ensures))
+    (one_module c.args.subsection c.args.contents.now c.in-Some.name.now c.if-subsection-eq-MODULE.true c.in-Some.ensures)
     (entry_pushed c.args.entries.now.items c.push.new.self.items c.entry.result (module_entry c.args.subsection c.in-Some.name.now) c.in_ok-push.ensures.items
     c.entry.ensures)
 
 pub returns-then-subsection-eq-MODULE-clause-filled : goal.returns-then-subsection-eq-MODULE-clause-filled
 returns-then-subsection-eq-MODULE-clause-filled c =
     filled_as (contents_read c.args.subsection c.args.contents.now) _
-    (one_module c.args.subsection c.args.contents.now c.in-Some.name.now c.if-subsection-eq-MODULE.true (rw c.in-Some.is at c.in_ok-name.ensures))
+    (one_module c.args.subsection c.args.contents.now c.in-Some.name.now c.if-subsection-eq-MODULE.true c.in-Some.ensures)
 
 pub returns-then-is_indirect-clause-added : goal.returns-then-is_indirect-clause-added
 returns-then-is_indirect-clause-added c =

@@ -13,11 +13,11 @@ pub returns-in_default : goal.returns-in_default
 returns-in_default c =
     (fails subsection_before all_entries (map entry_of c.args.entries.now.items) (map entry_of c.subsections.entries.items) c.args.most
     c.subsections.counter c.subsections.rest.now _ c.subsections-test.true
-    (no_subsection c.subsections.rest.now (rw c.in_default.is at c.in_ok-id.ensures)) c.subsections.invariant).entries
+    (no_subsection c.subsections.rest.now c.in_default.ensures) c.subsections.invariant).entries
 
 pub returns-then-not-filled : goal.returns-then-not-filled
 returns-then-not-filled c =
-    let read = one_subsection c.subsections.rest.now c.in-Some.id c.in-Some.contents.now c.in-Some.after.now false (rw c.in-Some.is at c.in_ok-id.ensures)
+    let read = one_subsection c.subsections.rest.now c.in-Some.id c.in-Some.contents.now c.in-Some.after.now false c.in-Some.ensures
     (sym c.in_ok-filled.ensures.filled ∙ c.if-not-filled.true) in
     c.in_ok-filled.ensures.added
     ∙ (ends subsection_before all_entries (map entry_of c.args.entries.now.items) (λ x. x) all_push (map entry_of c.subsections.entries.items) c.args.most
@@ -26,7 +26,7 @@ returns-then-not-filled c =
 pub subsections-preserved : goal.subsections-preserved
 subsections-preserved c =
     let old = map entry_of c.args.entries.now.items in
-    let read = one_subsection c.subsections.rest.now c.in-Some.id c.in-Some.contents.now c.in-Some.after.now true (rw c.in-Some.is at c.in_ok-id.ensures)
+    let read = one_subsection c.subsections.rest.now c.in-Some.id c.in-Some.contents.now c.in-Some.after.now true c.in-Some.ensures
     (sym c.in_ok-filled.ensures.filled ∙ c.if-not-filled.false) in
     let now = more subsection_before all_entries old (λ x. x) all_push (map entry_of c.subsections.entries.items) c.args.most
     c.subsections.counter c.subsections.rest.now (contents_read c.in-Some.id c.in-Some.contents.now).0 c.in-Some.after.now _ c.subsections-test.true read
