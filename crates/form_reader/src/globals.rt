@@ -95,10 +95,7 @@ impl<'d> InputEntry<'d> for GlobalDef {
 
     fn none(alloc: Global) -> GlobalDef {
         GlobalDef {
-            ty: GlobalType {
-                content_type: ValType::I32,
-                mutable: false,
-            },
+            ty: DefinedGlobal::none(alloc),
             init: ConstExpr {
                 ops: Vec::new(alloc),
             },
