@@ -2,7 +2,7 @@
 use Rattle.std.proofs.Common.{◌≡◌, ◌∙◌, ℕ, Bool, nat_eq, List, if◌then◌else◌, refl, sym, ap}
 use Rattle.std.specs.Bool.{Decides}
 use Rattle.std.specs.Cmp.Lexicographic.{pointwise}
-use Rattle.std.proofs.lemmas.Bool.{eqb-true, eq-eqb}
+use Rattle.std.proofs.lemmas.Bool.Decides.{Decides-eqb, Decides-like}
 use Rattle.std.proofs.lemmas.Slice.Eq.{slice_eq-Decides}
 use Rattle.rule_spec.specs.declared.classes.Class.{Class}
 use Rattle.rule_spec.specs.declared.classes.Class.TheVariants as class
@@ -34,10 +34,9 @@ same_class a b = nat_eq (class_number a) (class_number b)
 
 class-decides : (a b : Class) → Decides (same_class a b) (a ≡ b)
 unfolding same_class
-class-decides a b = (
-  (λ same. sym (class-back a) ∙ ap numbered_class (eqb-true (class_number a) (class_number b) same) ∙ class-back b),
-  (λ same. eq-eqb (class_number a) (class_number b) (ap class_number same)),
-)
+class-decides a b =
+    Decides-like _ (λ (e : class_number a ≡ class_number b). sym (class-back a) ∙ ap numbered_class e ∙ class-back b) (ap class_number)
+    (Decides-eqb (class_number a) (class_number b))
 
 classes-decide : (cs ds : List Class) → Decides (pointwise same_class cs ds) (cs ≡ ds)
 classes-decide cs ds = slice_eq-Decides class-decides cs ds _ refl

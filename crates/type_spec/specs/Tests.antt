@@ -3,8 +3,7 @@ use Rattle.std.proofs.Common.{◌≡◌, ◌∙◌, ℕ, Bool, nat_eq, ◌&&◌,
 use Rattle.std.specs.Bool.{Decides, beq}
 use Rattle.std.specs.Cmp.{booleans_Decides}
 use Rattle.std.specs.Cmp.Lexicographic.{pointwise}
-use Rattle.std.proofs.lemmas.Bool.{eqb-true, eq-eqb}
-use Rattle.std.proofs.lemmas.Bool.Decides.{Decides-and}
+use Rattle.std.proofs.lemmas.Bool.Decides.{Decides-and, Decides-eqb, Decides-like}
 use Rattle.std.proofs.lemmas.Slice.Eq.{slice_eq-Decides}
 use Rattle.wasm_spec.specs.declared.types.AbstractHeapType.{AbstractHeapType}
 use Rattle.wasm_spec.specs.declared.types.AbstractHeapType.TheVariants as heap
@@ -46,10 +45,9 @@ byte-back a = refl
 
 heap-decides : (a b : Heap Gap) → Decides (same_heap a b) (a ≡ b)
 heap-decides (Concrete a) (Concrete b) = (λ same. refl, λ same. refl)
-heap-decides (Abstract a) (Abstract b) = (
-  (λ same. ap Abstract (sym (byte-back a) ∙ ap byte_heap (eqb-true (heap_byte a) (heap_byte b) same) ∙ byte-back b)),
-  (λ same. let one : a ≡ b = cc in eq-eqb (heap_byte a) (heap_byte b) (ap heap_byte one)),
-)
+heap-decides (Abstract a) (Abstract b) =
+    Decides-like _ (λ (e : heap_byte a ≡ heap_byte b). ap Abstract (sym (byte-back a) ∙ ap byte_heap e ∙ byte-back b))
+    (λ same. let one : a ≡ b = cc in ap heap_byte one) (Decides-eqb (heap_byte a) (heap_byte b))
 heap-decides a b = (λ same. cc, λ same. cc)
 
 reference-decides : (a b : Reference Gap) → Decides (same_reference a b) (a ≡ b)
