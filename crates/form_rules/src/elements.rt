@@ -1,7 +1,7 @@
 //! What the rules require of element segments. One walk checks all rules, since each walk reads a
 //! segment again that stays in the input.
 
-ghost use Rattle.std.specs.Prelude.{◌↔◌, IsTrue, IfOk};
+ghost use Rattle.std.specs.Prelude.{IfOk};
 ghost use Rattle.form_reader.specs.Views.{element_of};
 ghost use Rattle.form_rules.specs.Views.{lists_of};
 ghost use Rattle.form_rules.specs.Walked.{AreElementsWalked, IsElementAdded};

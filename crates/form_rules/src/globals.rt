@@ -1,7 +1,7 @@
 //! What the rules require of globals. One walk checks all rules, since each walk reads a global
 //! again that stays in the input.
 
-ghost use Rattle.std.specs.Prelude.{◌↔◌, ◌≤◌, length, IsTrue, IfOk};
+ghost use Rattle.std.specs.Prelude.{◌≤◌, length, IfOk};
 ghost use Rattle.form_reader.specs.Views.{global_of};
 ghost use Rattle.form_rules.specs.Views.{lists_of};
 ghost use Rattle.form_rules.specs.Outcomes.{HasGlobals};

@@ -6,7 +6,6 @@ ghost use Rattle.wasm_spec.specs.TypeData.{field_of};
 ghost use Rattle.wasm_spec.specs.declared.operators.Operator.TheVariants as op;
 ghost use Rattle.form_reader.specs.Views.{composite_of};
 ghost use Rattle.rule_spec.specs.declared.classes.Class.TheVariants as class;
-ghost use Rattle.std.specs.List.{list_all};
 ghost use Rattle.rule_spec.specs.Lists.{kind_at};
 ghost use Rattle.rule_spec.specs.Typing.{has_default, field_class, struct_fields, struct_at, array_field, array_at, signature, gives, joins, refers_to, where_true, global_signature};
 ghost use Rattle.form_rules.specs.Views.{lists_of};

@@ -1,6 +1,6 @@
 //! What the rules require of data segments. One walk checks all rules, as for element segments.
 
-ghost use Rattle.std.specs.Prelude.{◌≡◌, ◌↔◌, ◌+◌, IsTrue, IfOk};
+ghost use Rattle.std.specs.Prelude.{◌≡◌, ◌+◌, IfOk};
 ghost use Rattle.form_reader.specs.Views.{segment_of};
 ghost use Rattle.form_rules.specs.Views.{lists_of};
 ghost use Rattle.form_rules.specs.Walked.{AreSegmentsWalked, IsSegmentAdded};
