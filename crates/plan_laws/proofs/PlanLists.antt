@@ -37,7 +37,8 @@ use Rattle.translate.specs.Initialised.{IsInitialised}
 use Rattle.translate.specs.Options.{InitOptions, images, passive_bytes}
 use Rattle.plan_laws.specs.TextCosts.{images_in, segments_in}
 use Rattle.plan_laws.proofs.AscendingCount.{ascending-few}
-use Rattle.plan_laws.proofs.EntryKinds.{elements-few, segments-few}
+use Rattle.translate.proofs.EntryCounts.{elements-few}
+use Rattle.plan_laws.proofs.EntryKinds.{segments-few}
 use Rattle.plan_laws.proofs.MemoryCounts.{IsFew, plan-few}
 use Rattle.plan_laws.proofs.Rest.{HasRest, has-rest}
 use Rattle.plan_laws.proofs.SumLaws.{kept-few}
