@@ -21,7 +21,7 @@ use Rattle.init_plan.specs.declared.translation.MemorySegmentOffset.{MemorySegme
 use Rattle.init_plan.specs.declared.translation.MemorySegmentOffset.TheVariants as offset
 use Rattle.init_plan.specs.Images.{HasTightImages}
 use Rattle.init_plan.specs.Startup.{with_startup}
-use Rattle.init_plan.specs.Views.{IsPlace, planned_segment_of, OnlyMemoriesChange, OnlyMemoryInitChanges}
+use Rattle.init_plan.specs.Views.{IsStatic, planned_offset_of, planned_segment_of, OnlyMemoriesChange, OnlyMemoryInitChanges}
 
 abbrev Segment : Type 0
 Segment = Index MemorySpace × MemorySegmentOffset × Index RuntimeDataSpace
@@ -30,7 +30,7 @@ abbrev written : MemoryPlan → List Segment → List ActiveSegment
 written plan ss = filter_map (λ (s : PlannedSegment). left_to_write plan s.offset s.memory s.index) (map planned_segment_of ss)
 
 abbrev Placed : Segment → Type 0
-Placed s = IsPlace s.1
+Placed s = IsStatic (planned_offset_of s.1)
 
 -- ---- the segments that are kept
 

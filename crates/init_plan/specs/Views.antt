@@ -106,9 +106,9 @@ images_of initialization.Segmented = []
 images_of (initialization.Static images) = map (option_map (λ image. (image.0, number_of image.1))) images
 
 -- a planned segment is an image
-abbrev pub IsPlace : MemorySegmentOffset → Type 0
-IsPlace (offset.Expr e) = ⊥
-IsPlace (offset.Static place) = Unit {0}
+abbrev pub IsStatic : PlannedOffset → Type 0
+IsStatic (Expr e) = ⊥
+IsStatic (Static place) = Unit {0}
 
 -- the memories of a translation, as a plan
 abbrev pub memory_plan_of : ModuleTranslation → MemoryPlan

@@ -36,6 +36,7 @@ pub use debug_info::{BranchHint, DebugInfoData, FunctionMetadata, NameSection, W
 pub use error::PlanError;
 pub use laws::{agreement_law, held_agreement_laws};
 pub use memory_images::{Written, written_ranges};
+pub use memory_startup::are_images;
 pub use translation::{
     FunctionBodyData, MemoryInit, MemorySegmentOffset, ModuleTranslation, RuntimeBytes,
 };

@@ -11,7 +11,7 @@ ghost use Rattle.replay_spec.specs.Images.{IsMemoryPlan};
 ghost use Rattle.init_plan.specs.Images.{image_options, image_memories, BeginsByRule, HasTightImages, HasWholeRanges, WillHaveRuntimeSize};
 ghost use Rattle.init_plan.specs.Tables.{TableHalfIsReady};
 ghost use Rattle.init_plan.specs.Ready.{MemoryHalfIsReady};
-ghost use Rattle.init_plan.specs.Views.{memory_plan_of, images_of, processed_of, IsPlace, initializers_of, passive_data_of, passive_bytes, data_total, defined_sizes, ranges_of, FindsInOrder, IsProcessed, OnlyMemoryInitChanges};
+ghost use Rattle.init_plan.specs.Views.{memory_plan_of, images_of, processed_of, planned_offset_of, IsStatic, initializers_of, passive_data_of, passive_bytes, data_total, defined_sizes, ranges_of, FindsInOrder, IsProcessed, OnlyMemoryInitChanges};
 
 use crate::error::PlanError;
 use crate::translation::{MemoryInit, MemorySegmentOffset, ModuleTranslation};
@@ -142,8 +142,9 @@ impl ModuleTranslation<'_> {
     }
 }
 
-fn are_images(segments: &[(MemoryIndex, MemorySegmentOffset, RuntimeDataIndex)]) -> bool
-    ensures { IsTrue result ↔ All (λ s. IsPlace s.1) segments.now }
+/// Whether each planned segment is an image.
+pub fn are_images(segments: &[(MemoryIndex, MemorySegmentOffset, RuntimeDataIndex)]) -> bool
+    ensures { IsTrue result ↔ All (λ s. IsStatic (planned_offset_of s.1)) segments.now }
 {
     segments.iter().all(|segment| matches!(segment.1, MemorySegmentOffset::Static(_)))
 }

@@ -20,12 +20,12 @@ use Rattle.init_plan.specs.Tables.{plan_of_tables, own_tables, AreCounted}
 use Rattle.plan_run.specs.declared.elements.ElementPiece.{ElementPiece}
 use Rattle.plan_run.specs.declared.segments.DataPiece.{DataPiece}
 use Rattle.init_plan.specs.declared.translation.ModuleTranslation.{ModuleTranslation}
-use Rattle.init_plan.specs.Views.{memory_plan_of}
+use Rattle.init_plan.specs.Views.{IsStatic, memory_plan_of}
 use Rattle.paged_memory.specs.Memory.{Contents, count_lent}
 use Rattle.form_types.proofs.AllOf.{All-from_map}
 use Rattle.plan_run.specs.declared.laid.Way.{Way}
 use Rattle.plan_run.specs.declared.laid.Way.TheVariants as way
-use Rattle.plan_run.specs.Finished.{Finished, IsStatic}
+use Rattle.plan_run.specs.Finished.{Finished}
 use Rattle.plan_run.specs.Laid.{LendsImage, PagesAreLent, LendImages}
 use Rattle.plan_run.specs.Lays.{Hold}
 use Rattle.plan_run.specs.Limits.{most_bytes, page_size_of, own_memories}

@@ -18,9 +18,8 @@ use Rattle.replay_spec.specs.Tables.{PlannedTable}
 use Rattle.table_images.specs.Steps.{images_of}
 use Rattle.table_images.specs.Views.{cell_of, image_of, initial_of, planned_tables_of}
 use Rattle.init_plan.specs.declared.translation.MemorySegmentOffset.{MemorySegmentOffset}
-use Rattle.init_plan.specs.Views.{planned_offset_of, planned_segment_of}
+use Rattle.init_plan.specs.Views.{IsStatic, planned_offset_of, planned_segment_of}
 use Rattle.form_types.proofs.AllOf.{All-from_map}
-use Rattle.plan_run.specs.Finished.{IsStatic}
 use Rattle.plan_run.proofs.CellSteps.{planned-at}
 use Rattle.plan_run.proofs.Given.{planned-count}
 use Rattle.plan_run.proofs.LeftSteps.{view_image}

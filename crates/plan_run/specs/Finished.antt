@@ -4,16 +4,12 @@ use Rattle.std.specs.Prelude.{◌≡◌, ◌⊎◌, ℕ, ◌-◌, ◌<◌, ◌�
 use Rattle.wasm_index.specs.Index.{number_of}
 use Rattle.wasm_types.specs.declared.memory.Memory.{Memory}
 use Rattle.wasm_types.specs.Memories.{minimum_bytes}
-use Rattle.replay_spec.specs.Plan.{PlannedOffset, Expr, Static, runtime_bytes}
+use Rattle.replay_spec.specs.Plan.{runtime_bytes}
 use Rattle.init_plan.specs.declared.translation.ModuleTranslation.{ModuleTranslation}
-use Rattle.init_plan.specs.Views.{IsProcessed, memory_plan_of}
+use Rattle.init_plan.specs.Views.{IsProcessed, IsStatic, memory_plan_of}
 use Rattle.init_plan.specs.Tables.{plan_of_tables, AreCounted}
 use Rattle.plan_run.specs.Limits.{page_size_of}
 use Rattle.plan_run.specs.Memories.{ImageIsWithin}
-
-abbrev pub IsStatic : PlannedOffset → Type 0
-IsStatic (Expr e) = ⊥
-IsStatic (Static place) = Unit {0}
 
 -- an image is of a defined memory, is within its minimum size, and is complete pages; no segment
 -- then remains to be written

@@ -8,8 +8,8 @@ ghost use Rattle.wasm_types.specs.declared.memory.Memory.{Memory as MemoryType};
 ghost use Rattle.wasm_module.specs.declared.table_initialization.TableInitialValue.{TableInitialValue};
 ghost use Rattle.table_images.specs.Steps.{images_of};
 ghost use Rattle.table_images.specs.Views.{planned_tables_of};
-ghost use Rattle.init_plan.specs.Views.{planned_offset_of, planned_segment_of, processed_of};
-ghost use Rattle.plan_run.specs.Finished.{Finished, GlobalsAreFinished, MemoriesAreFinished, TablesAreFinished, ImageFits, ImagesFit, IsStatic};
+ghost use Rattle.init_plan.specs.Views.{planned_segment_of, processed_of};
+ghost use Rattle.plan_run.specs.Finished.{Finished, GlobalsAreFinished, MemoriesAreFinished, TablesAreFinished, ImageFits, ImagesFit};
 ghost use Rattle.plan_run.specs.Memories.{ImageIsWithin};
 ghost use Rattle.plan_run.specs.Limits.{page_size_of};
 
@@ -17,7 +17,7 @@ use crate::limits::{minimum_size, page_size};
 use crate::memories::bytes_of;
 use crate::tables::minimum_of;
 use entity_map::EntityRef;
-use init_plan::{MemoryInit, MemorySegmentOffset, ModuleTranslation};
+use init_plan::{MemoryInit, MemorySegmentOffset, ModuleTranslation, are_images};
 use wasm_convert::{ConstExpr, GlobalConstValue};
 use wasm_index::{DefinedGlobalIndex, FuncIndex, MemoryIndex, RuntimeDataIndex};
 use wasm_module::{MemoryInitialization, TableSegment};
@@ -81,12 +81,6 @@ fn elements_are_within(segments: &[TableSegment], count: usize) -> bool
     segments
         .iter()
         .all(|segment| segment.table_index.index() < count)
-}
-
-fn are_images(segments: &[(MemoryIndex, MemorySegmentOffset, RuntimeDataIndex)]) -> bool
-    ensures { IsTrue result ↔ All (λ s. IsStatic (planned_offset_of s.1)) segments.now }
-{
-    segments.iter().all(|segment| matches!(segment.1, MemorySegmentOffset::Static(_)))
 }
 
 /// Whether an image is complete pages within a memory's minimum size.

@@ -12,7 +12,7 @@ use Rattle.replay_spec.specs.Images.{ImageOptions, ImageMemory, size_of, MemoryI
 use Rattle.replay_spec.proofs.Kept.{bytes-at, next-runtime}
 use Rattle.replay_spec.proofs.Joined.{home}
 use Rattle.replay_spec.proofs.Tight.{tight-image}
-use Rattle.plan_run.specs.Finished.{IsStatic}
+use Rattle.init_plan.specs.Views.{IsStatic}
 
 -- an entry of the map is an image, whose bytes are its runtime data
 record IsEntry (plan : MemoryPlan) (images : List (Option MemoryImage)) (i : ℕ) (entry : ℕ × ℕ) : Type 0 where
