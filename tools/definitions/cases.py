@@ -83,18 +83,18 @@ def read_cases(top):
 def type_lines(definitions, case, module):
     find = definitions.find
     for startup in (False, True):
-        held = find("module_environ", "interned_list")(module, startup)
+        held = find("interned_types", "interned_list")(module, startup)
         yield f"types {len(held['types'])}"
         yield from (f"group {number} {group['start']} {group['end']}" for number, group in enumerate(held["groups"]))
 
 
 def declared_lines(definitions, case, module):
-    yield from (f"declared {place} {index}" for place, index in enumerate(definitions.find("module_environ", "declared")(module)))
+    yield from (f"declared {place} {index}" for place, index in enumerate(definitions.find("interned_types", "declared")(module)))
 
 
 def escape_lines(definitions, case, module):
     lists = definitions.find("rule_spec", "lists_of_module")(module)
-    escaping = definitions.find("module_environ", "escaping")("--guest-debug" in case.words, lists)
+    escaping = definitions.find("module_sections", "escaping")("--guest-debug" in case.words, lists)
     yield from (f"escape {function} {number}" for number, function in enumerate(escaping))
 
 

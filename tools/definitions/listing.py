@@ -40,7 +40,7 @@ WORDS = [
     ("data segment, active", "replay_spec", "module_phase", "a segment with a memory and an offset at which instantiation writes its bytes; all in order are the data phase"),
     ("dense", "replay_spec", "IsDense", "of segments: their extent is below twice their bytes, or below the extent that is always made an image"),
     ("edge", "wasm_spec", "group_edges", "a reference from a type to a type, in a fixed order"),
-    ("escape", "module_environ", "escaping", "a function escapes where something makes a reference to it"),
+    ("escape", "module_sections", "escaping", "a function escapes where something makes a reference to it"),
     ("exception type", "type_spec", "with_exception", "the interned type that holds the parameters of a tag"),
     ("extent", "replay_spec", "extent", "of segments: from their least start to their greatest end"),
     ("image", "replay_spec", "IsImage", "whole pages of a memory around its bytes that are not zero, mapped copy-on-write in place of writing segments"),

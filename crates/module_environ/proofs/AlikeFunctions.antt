@@ -25,10 +25,11 @@ use Rattle.wasm_types.specs.ValueViews.{Name, value_of as view_value}
 use Rattle.wasm_convert.specs.Conversion.{LookUp}
 use Rattle.wasm_convert.specs.Known.{Known}
 use Rattle.init_plan.specs.declared.debug_info.FunctionMetadata.{FunctionMetadata}
-use Rattle.module_environ.specs.Filling.{module_in, IsGathered, LooksUpTypes}
+use Rattle.interned_types.specs.Environment.{LooksUpTypes}
+use Rattle.module_sections.specs.Filling.{module_in, IsGathered}
 use Rattle.module_environ.specs.Metadata.{FunctionData, params_of, KnowsParams, params_to, params_at, params_of_types, function_data, view_function}
-use Rattle.module_environ.specs.Types.{look_up_in}
-use Rattle.module_environ.proofs.Agreeing.{known-edges}
+use Rattle.interned_types.specs.Types.{look_up_in}
+use Rattle.module_sections.proofs.Agreeing.{known-edges}
 
 -- ---- no group ends past the last type
 

@@ -28,7 +28,8 @@ use Rattle.module_environ.specs.declared.error.EnvironError.{EnvironError}
 use Rattle.module_environ.specs.declared.error.EnvironError.TheVariants as refusal
 use Rattle.module_environ.specs.Errors.{error_of_read}
 use Rattle.module_environ.specs.Readable.{IsReadable, HasTranslationCause}
-use Rattle.module_environ.specs.Translation.{HasEntities, CountsImports, HasSections, code_places, first_or_zero}
+use Rattle.module_environ.specs.Translation.{code_places, first_or_zero}
+use Rattle.module_sections.specs.Sections.{HasEntities, CountsImports, HasSections}
 use Rattle.module_environ.specs.Translated.{IsReady, IsTranslated}
 use Rattle.module_environ.specs.Forming.{IsFormed, FormCause}
 use Rattle.module_environ.proofs.HoldsLists.{holds_memories, holds_tables, holds_globals}

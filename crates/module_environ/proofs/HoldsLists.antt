@@ -49,10 +49,10 @@ use Rattle.replay_spec.proofs.AnyNull.{const-any}
 use Rattle.init_plan.specs.declared.translation.ModuleTranslation.{ModuleTranslation}
 use Rattle.init_plan.specs.Tables.{own_tables}
 use Rattle.init_plan.specs.Held.{HoldsMemories, HoldsTables, HoldsGlobals}
-use Rattle.module_environ.proofs.HeldExpressions.{seen-is}
-use Rattle.module_environ.specs.Types.{look_up_in}
-use Rattle.module_environ.specs.Initialisers.{view_initialiser, first_values, view_first_value, type_in, active_items, view_items, view_segment}
-use Rattle.module_environ.specs.Translation.{HasEntities, CountsImports, HasGlobals, HasElements, HasData}
+use Rattle.module_sections.proofs.HeldExpressions.{seen-is}
+use Rattle.interned_types.specs.Types.{look_up_in}
+use Rattle.module_sections.specs.Initialisers.{view_initialiser, first_values, view_first_value, type_in, active_items, view_items, view_segment}
+use Rattle.module_sections.specs.Sections.{HasEntities, CountsImports, HasGlobals, HasElements, HasData}
 
 -- ---- lists
 

@@ -20,9 +20,9 @@ use Rattle.replay_spec.specs.Data.{ActiveSegment, active_of_kind}
 use Rattle.replay_spec.specs.Held.{held_segment}
 use Rattle.init_plan.specs.declared.translation.ModuleTranslation.{ModuleTranslation}
 use Rattle.init_plan.specs.Ready.{MemoryHalfIsReady}
-use Rattle.module_environ.specs.Initialisers.{passive_data_in, passive_data_from}
-use Rattle.module_environ.specs.Translation.{HasData, HasEntities, CountsImports}
-use Rattle.module_environ.proofs.Filling.{length-filter_map, All-gathered}
+use Rattle.module_sections.specs.Initialisers.{passive_data_in, passive_data_from}
+use Rattle.module_sections.specs.Sections.{HasData, HasEntities, CountsImports}
+use Rattle.module_sections.proofs.Filling.{length-filter_map, All-gathered}
 
 -- ---- active segments
 

@@ -43,11 +43,11 @@ use Rattle.table_images.specs.Views.{active_elements_of, initial_of, items_of, d
 use Rattle.table_images.specs.Steps.{images_of}
 use Rattle.init_plan.specs.declared.translation.ModuleTranslation.{ModuleTranslation}
 use Rattle.init_plan.specs.Tables.{IsAmong, own_tables, TableHalfIsReady}
-use Rattle.module_environ.specs.Types.{look_up_in}
-use Rattle.module_environ.specs.Initialisers.{type_in, active_items, view_items, view_segment, view_first_value}
-use Rattle.module_environ.specs.Translation.{HasElements, HasEntities, CountsImports, Escapes}
-use Rattle.module_environ.proofs.FromRules.{sized-below}
-use Rattle.module_environ.proofs.Filling.{length-filter_map, All-gathered}
+use Rattle.interned_types.specs.Types.{look_up_in}
+use Rattle.module_sections.specs.Initialisers.{type_in, active_items, view_items, view_segment, view_first_value}
+use Rattle.module_sections.specs.Sections.{HasElements, HasEntities, CountsImports, Escapes}
+use Rattle.module_sections.proofs.FromRules.{sized-below}
+use Rattle.module_sections.proofs.Filling.{length-filter_map, All-gathered}
 use Rattle.module_environ.proofs.HoldsLists.{initial-seen}
 
 -- ---- functions in expressions

@@ -20,12 +20,13 @@ use Rattle.module_types.proofs.NamingEarlier.{keeps-earlier}
 use Rattle.module_environ.specs.declared.error.EnvironError.{EnvironError}
 use Rattle.module_environ.specs.declared.error.EnvironError.TheVariants as refusal
 use Rattle.module_environ.specs.Errors.{error_of_build}
-use Rattle.module_environ.specs.Filling.{module_in, IsGathered}
+use Rattle.module_sections.specs.Filling.{module_in, IsGathered}
 use Rattle.module_environ.specs.Forming.{FormCause}
-use Rattle.module_environ.specs.OnTheWay.{after_types, after_tags, IsOnTheWay, StopsOnTheWay}
+use Rattle.interned_types.specs.OnTheWay.{after_types, after_tags, IsOnTheWay}
+use Rattle.module_environ.specs.OnTheWay.{StopsOnTheWay}
 use Rattle.module_environ.specs.Readable.{IsReadable, SucceedsOrNoMemory, IsPoisonedOrNoMemory}
-use Rattle.module_environ.specs.Tagged.{CanTag}
-use Rattle.module_environ.specs.Types.{declared, type_index, AreTypesOf, HoldsGroupsAlone}
+use Rattle.interned_types.specs.Tagged.{CanTag}
+use Rattle.interned_types.specs.Types.{declared, type_index, AreTypesOf, HoldsGroupsAlone}
 
 -- the types of the module whose lists were gathered
 pub types-gathered : (l : Lists) → IsGathered l → (t : TypesData) → AreNumbered (module_in l) t → AreTypesOf (module_in l) t

@@ -31,14 +31,15 @@ use Rattle.init_plan.specs.Views.{types_of, IsNewTranslation}
 use Rattle.module_environ.specs.Errors.{error_of_check}
 use Rattle.module_environ.specs.Customs.{HasCustoms}
 use Rattle.module_environ.specs.Pooled.{pool_of}
-use Rattle.module_environ.specs.Entities.{count_of, tags_of}
-use Rattle.module_environ.specs.Types.{declared, type_index, interned_list, HoldsGroupsAlone}
-use Rattle.module_environ.specs.Tagged.{GainsExceptions}
-use Rattle.module_environ.specs.Translation.{startup_when, HasSections}
+use Rattle.interned_types.specs.Tagged.{tags_of, GainsExceptions}
+use Rattle.module_sections.specs.Entities.{count_of}
+use Rattle.interned_types.specs.Types.{declared, type_index, interned_list, HoldsGroupsAlone}
+use Rattle.module_environ.specs.Translation.{startup_when}
+use Rattle.module_sections.specs.Sections.{HasSections}
 use Rattle.module_environ.specs.Translated.{starts_always, HoldsTypes, startup_index_when}
-use Rattle.module_environ.specs.Filling.{LeavesRest}
+use Rattle.module_sections.specs.Filling.{LeavesRest}
 use Rattle.module_environ.specs.Forming.{IsFormed, FormCause}
-use Rattle.module_environ.specs.Initialisers.{initialisers, view_initialiser, view_items}
+use Rattle.module_sections.specs.Initialisers.{initialisers, view_initialiser, view_items}
 
 -- ---- when startup is known to run, of a module and of its translation
 

@@ -13,9 +13,9 @@ use Rattle.module_customs.specs.Hints.{HintLists, module_hints, branch_hint_of}
 use Rattle.module_customs.specs.DebugSections.{is_debug_section}
 use Rattle.init_plan.specs.declared.translation.ModuleTranslation.{ModuleTranslation}
 use Rattle.init_plan.specs.Views.{hints_of}
-use Rattle.module_environ.specs.Entities.{text_at}
+use Rattle.module_sections.specs.Entities.{text_at}
 use Rattle.module_environ.specs.Metadata.{view_function, functions_asked}
-use Rattle.module_environ.specs.Types.{look_up_in}
+use Rattle.interned_types.specs.Types.{look_up_in}
 
 -- the names for a debugger, and of those otherwise what names functions
 abbrev pub names_asked : Bool → plain.Module → NameLists
@@ -44,4 +44,17 @@ HasCustoms tunables m t = record {
   functions : map view_function t.debuginfo.wasm_file.funcs.items ≡ functions_asked (look_up_in m) (lists_of_module m) tunables.debug_native;
   -- whether there is debug information, which is not read
   debug : t.has_unparsed_debuginfo ≡ list_any is_debug_section m;
+}
+
+-- only names, hints, and the metadata of functions and of debug information may differ in a
+-- translation
+abbrev pub OnlyCustomsChange : ModuleTranslation → ModuleTranslation → Type 0
+OnlyCustomsChange old new = new ≡ record old {
+  «module» = record old.module { strings = new.module.strings; name = new.module.name };
+  debuginfo = record old.debuginfo {
+    name_section = new.debuginfo.name_section;
+    wasm_file = record old.debuginfo.wasm_file { funcs = new.debuginfo.wasm_file.funcs };
+  };
+  has_unparsed_debuginfo = new.has_unparsed_debuginfo;
+  private_parts = record old.private_parts { branch_hints = new.private_parts.branch_hints };
 }

@@ -10,9 +10,10 @@ use Rattle.init_plan.specs.declared.translation.ModuleTranslation.{ModuleTransla
 use Rattle.module_environ.specs.declared.error.EnvironError.{EnvironError}
 use Rattle.module_environ.specs.declared.error.EnvironError.TheVariants as refusal
 use Rattle.module_environ.specs.Customs.{HasCustoms}
-use Rattle.module_environ.specs.Entities.{count_of}
+use Rattle.module_sections.specs.Entities.{count_of}
 use Rattle.module_environ.specs.Pooled.{pool_of}
-use Rattle.module_environ.specs.Translation.{startup_when, HasTypes, HasSections}
+use Rattle.module_environ.specs.Translation.{startup_when, HasTypes}
+use Rattle.module_sections.specs.Sections.{HasSections}
 use Rattle.module_environ.specs.Translated.{starts_always, HoldsTypes}
 
 -- all of a translation except its bytes and its code

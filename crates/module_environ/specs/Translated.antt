@@ -13,7 +13,7 @@ use Rattle.init_plan.specs.declared.translation.ModuleTranslation.{ModuleTransla
 use Rattle.init_plan.specs.Held.{HoldsMemories, HoldsTables, HoldsGlobals}
 use Rattle.init_plan.specs.Ready.{MemoryHalfIsReady}
 use Rattle.init_plan.specs.Tables.{TableHalfIsReady}
-use Rattle.module_environ.specs.Types.{interned_list}
+use Rattle.interned_types.specs.Types.{interned_list}
 use Rattle.module_environ.specs.Readable.{IsReadable}
 use Rattle.module_environ.specs.Translation.{IsTranslation}
 

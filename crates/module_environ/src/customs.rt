@@ -8,10 +8,12 @@ ghost use Rattle.form_rules.specs.Source.{source_module};
 ghost use Rattle.wasm_index.specs.Index.{number_of};
 ghost use Rattle.module_customs.specs.Hints.{HasFirst};
 ghost use Rattle.module_customs.specs.Names.{at_number, module_names, KeepsNames};
-ghost use Rattle.module_environ.specs.Customs.{HasCustoms, hints_asked, names_asked};
-ghost use Rattle.module_environ.specs.Entities.{text_at};
-ghost use Rattle.module_environ.specs.Filling.{module_in, IsGathered, LooksUpTypes, OnlyCustomsChange};
-ghost use Rattle.module_environ.specs.Pooled.{with_texts, own_name, HasText};
+ghost use Rattle.module_environ.specs.Customs.{HasCustoms, hints_asked, names_asked, OnlyCustomsChange};
+ghost use Rattle.module_sections.specs.Entities.{text_at};
+ghost use Rattle.interned_types.specs.Environment.{LooksUpTypes};
+ghost use Rattle.module_sections.specs.Filling.{module_in, IsGathered};
+ghost use Rattle.module_environ.specs.Pooled.{own_name};
+ghost use Rattle.module_sections.specs.Pooled.{with_texts, HasText};
 
 use crate::metadata::function_metadata;
 use entity_map::{Atom, OutOfMemory, StringPool};

@@ -1,12 +1,12 @@
 //! What a module is translated with.
 
 ghost use Rattle.std.specs.Prelude.{◌≡◌, [], false, IfOk, IsOk};
-ghost use Rattle.module_environ.specs.Named.{IsNamed, name_in};
+ghost use Rattle.interned_types.specs.Named.{IsNamed, name_in};
 ghost use Rattle.module_types.specs.Builder.{builder_view, new_builder};
 
-use crate::declared::{named_heap_type, named_index};
 use entity_map::OutOfMemory;
 use form_types::Validator;
+use interned_types::{named_heap_type, named_index};
 use module_types::ModuleTypesBuilder;
 use std::alloc::Global;
 use wasm_convert::TypeConvert;

@@ -6,9 +6,10 @@ ghost use Rattle.rule_spec.specs.Lists.{lists_of_module};
 ghost use Rattle.form_reader.specs.Views.{composite_of, group_of};
 ghost use Rattle.wasm_types.specs.ValueViews.{Name, value_of as view_value};
 ghost use Rattle.wasm_convert.specs.Known.{Known};
-ghost use Rattle.module_environ.specs.Filling.{module_in, IsGathered, LooksUpTypes};
+ghost use Rattle.interned_types.specs.Environment.{LooksUpTypes};
+ghost use Rattle.module_sections.specs.Filling.{module_in, IsGathered};
 ghost use Rattle.module_environ.specs.Metadata.{params_of, KnowsParams, params_to, params_at, params_of_types, view_function, functions_asked};
-ghost use Rattle.module_environ.specs.Types.{look_up_in};
+ghost use Rattle.interned_types.specs.Types.{look_up_in};
 
 use entity_map::OutOfMemory;
 use form_reader::{CompositeInnerType, FunctionBody, RecGroup};

@@ -1,13 +1,13 @@
-//! The types of a module, interned.
+//! The types of a module, interned, with the error of a translation.
 
 ghost use Rattle.std.specs.Prelude.{◌≡◌, ◌<◌, ◌^◌, ℕ, false, length, map, IfOk, OnOk, OnErr, Err};
 ghost use Rattle.wasm_spec.specs.Module.{Module};
 ghost use Rattle.type_spec.specs.Interned.{taken};
 ghost use Rattle.form_types.specs.Placed.{placed_groups};
 ghost use Rattle.module_types.specs.Builder.{builder_view, new_builder};
-ghost use Rattle.module_environ.specs.Environment.{AreHeld};
-ghost use Rattle.module_environ.specs.OnTheWay.{after_types};
-ghost use Rattle.module_environ.specs.Types.{declared, type_index, AreTypesOf, HoldsGroupsAlone};
+ghost use Rattle.interned_types.specs.Environment.{AreHeld};
+ghost use Rattle.interned_types.specs.OnTheWay.{after_types};
+ghost use Rattle.interned_types.specs.Types.{declared, type_index, AreTypesOf, HoldsGroupsAlone};
 
 use crate::error::EnvironError;
 use entity_map::PrimaryMap;
@@ -37,12 +37,5 @@ pub fn intern_types(
     // Without memory it is poisoned, or it has interned the types before.
     ensures stops { OnErr result (builder.new.is_poisoned ≡ false → (count : ℕ) × (builder_view builder.new ≡ after_types types.now count)) }
 {
-    let count = types.core_type_count_in_module();
-    let mut indices = PrimaryMap::with_capacity(alloc, count as usize)?;
-    for place in 0..count {
-        let id = types.core_type_at_in_module(place);
-        let index = builder.intern_type(types, id)?;
-        indices.push(EngineOrModuleTypeIndex::Module(index))?;
-    }
-    Ok(indices)
+    Ok(interned_types::intern_types(alloc, types, builder)?)
 }

@@ -15,7 +15,7 @@ use Rattle.form_reader.proofs.Outcomes.{spells_or_stops}
 use Rattle.init_plan.specs.Views.{memory_plan_of}
 use Rattle.init_plan.specs.Tables.{plan_of_tables}
 use Rattle.module_environ.specs.Readable.{IsReadable, Breaks}
-use Rattle.module_environ.proofs.DeclaredKinds.{types-long}
+use Rattle.interned_types.proofs.DeclaredKinds.{types-long}
 use Rattle.plan_text.specs.declared.plan.Plan.{Plan}
 use Rattle.plan_text.specs.declared.error.TranslateError.{TranslateError}
 use Rattle.plan_text.specs.declared.error.TranslateError.TheVariants as refusal

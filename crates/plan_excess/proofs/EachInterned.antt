@@ -14,9 +14,9 @@ use Rattle.form_types.specs.Placed.{placed_groups}
 use Rattle.form_types.proofs.Ruled.{size-places}
 use Rattle.entity_map.specs.Firsts.{firsts}
 use Rattle.module_types.proofs.GroupMembers.{composite-before}
-use Rattle.module_environ.specs.Types.{interned_at, interned_list, exception_at, exception_functions}
-use Rattle.module_environ.proofs.Excepting.{excepted}
-use Rattle.module_environ.proofs.FirstCauses.{contains-firsts, firsts-once}
+use Rattle.interned_types.specs.Types.{interned_at, interned_list, exception_at, exception_functions}
+use Rattle.interned_types.proofs.Excepting.{excepted}
+use Rattle.module_sections.proofs.FirstCauses.{contains-firsts, firsts-once}
 use Rattle.plan_excess.proofs.Origins.{IsNumbered, IsFunctionAt, taken-origin}
 
 -- the first position at which a test passes

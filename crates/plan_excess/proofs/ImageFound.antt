@@ -4,7 +4,7 @@ use Rattle.std.specs.Prelude.{sum_by}
 use Rattle.std.proofs.lemmas.List.{length-map}
 use Rattle.wasm_spec.specs.Module.{Module, memories, defined_memories, segments}
 use Rattle.replay_spec.specs.Images.{image_memory_of}
-use Rattle.module_environ.specs.Initialisers.{passive_data_from}
+use Rattle.module_sections.specs.Initialisers.{passive_data_from}
 use Rattle.wasm_index.specs.Index.{index_of}
 use Rattle.wasm_types.specs.Memories.{memory_of}
 use Rattle.module_types.specs.Builder.{BuilderState}

@@ -24,10 +24,10 @@ use Rattle.init_plan.specs.declared.translation.ModuleTranslation.{ModuleTransla
 use Rattle.module_environ.specs.Translated.{IsTranslated, starts_always}
 use Rattle.translate.specs.Planned.{KeepsAnd}
 use Rattle.command_words.specs.declared.command.Collector.{Collector}
-use Rattle.module_environ.specs.Types.{declared, type_index, interned_at, interned_list, exception_at, exception_functions}
-use Rattle.module_environ.specs.Entities.{tags_of}
-use Rattle.module_environ.proofs.Excepting.{excepted}
-use Rattle.module_environ.proofs.FirstCauses.{contains-firsts}
+use Rattle.interned_types.specs.Types.{declared, type_index, interned_at, interned_list, exception_at, exception_functions}
+use Rattle.interned_types.specs.Tagged.{tags_of}
+use Rattle.interned_types.proofs.Excepting.{excepted}
+use Rattle.module_sections.proofs.FirstCauses.{contains-firsts}
 use Rattle.translate.specs.Options.{header_size}
 use Rattle.rule_breaks.specs.Search.{IsFirstWithout}
 use Rattle.plan_excess.specs.declared.kinds.ExcessKind.{ExcessKind}

@@ -11,7 +11,7 @@ use Rattle.wasm_types.specs.declared.sub.WasmSubType.{WasmSubType}
 use Rattle.module_types.specs.Views.{interned_number, interned_of}
 use Rattle.command_words.specs.declared.command.Collector.{Collector}
 use Rattle.gc_layout.specs.Objects.{gc_layout_of, fixed_size}
-use Rattle.module_environ.specs.Types.{interned_list}
+use Rattle.interned_types.specs.Types.{interned_list}
 use Rattle.translate.specs.Options.{header_size}
 use Rattle.translate.proofs.ObjectSizes.{same-size}
 use Rattle.plan_excess.specs.Found.{IsSmallAt}

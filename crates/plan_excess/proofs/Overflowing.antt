@@ -11,7 +11,7 @@ use Rattle.wasm_types.specs.declared.composite.WasmCompositeInnerType.{WasmCompo
 use Rattle.wasm_types.specs.declared.composite.WasmCompositeInnerType.TheVariants as inner
 use Rattle.module_types.specs.Views.{interned_of, inner_of}
 use Rattle.gc_layout.specs.Objects.{gc_layout_of, fixed_size}
-use Rattle.module_environ.specs.Types.{interned_list}
+use Rattle.interned_types.specs.Types.{interned_list}
 use Rattle.translate.specs.Contexts.{Overflows}
 use Rattle.translate.specs.Options.{Options, header_size, startup_by, runs}
 use Rattle.plan_excess.specs.Large.{IsLargeAt, IsLargeContext, HasSmallObjects, HasSmallExceptions}

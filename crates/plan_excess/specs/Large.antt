@@ -7,7 +7,7 @@ use Rattle.command_words.specs.declared.command.Collector.{Collector}
 use Rattle.gc_layout.specs.Objects.{gc_layout_of, fixed_size}
 use Rattle.replay_spec.specs.Plan.{MemoryPlan}
 use Rattle.replay_spec.specs.Tables.{TablePlan}
-use Rattle.module_environ.specs.Types.{interned_at, interned_list, exception_at}
+use Rattle.interned_types.specs.Types.{interned_at, interned_list, exception_at}
 use Rattle.translate.specs.Contexts.{size_of_context}
 use Rattle.translate.specs.Options.{Options, header_size, PlansMemories, PlansTables}
 use Rattle.plan_excess.specs.declared.kinds.ExcessKind.{ExcessKind}

@@ -5,7 +5,7 @@ use Rattle.std.specs.Prelude.{◌⊎◌, Contains}
 use Rattle.std.specs.Map.{lookup}
 use Rattle.std.proofs.lemmas.Bool.{cases_order, cases_eq, eq-eqb, ne_eqb}
 use Rattle.std.proofs.lemmas.Option.{none-some}
-use Rattle.module_environ.specs.Escapes.{Ascend, AreSignatures}
+use Rattle.module_sections.specs.Escapes.{Ascend, AreSignatures}
 use Rattle.plan_laws.specs.Kept.{IsBelowAll, Rises}
 use Rattle.plan_laws.proofs.Tables.{some-same}
 

@@ -6,7 +6,7 @@ use Rattle.wasm_spec.specs.declared.entities.TypeRef.{TypeRef}
 use Rattle.wasm_spec.specs.Module.{Import, function_import, memory_import, tag_import, Segment}
 use Rattle.replay_spec.specs.Data.{ActiveSegment, active_of_kind}
 use Rattle.replay_spec.specs.Held.{held_segment}
-use Rattle.module_environ.specs.Initialisers.{passive_data_from}
+use Rattle.module_sections.specs.Initialisers.{passive_data_from}
 use Rattle.translate.proofs.EntryCounts as counts
 
 abbrev of : {A : Type 0} → (TypeRef → Option A) → List Import → ℕ

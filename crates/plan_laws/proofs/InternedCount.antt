@@ -8,8 +8,8 @@ use Rattle.type_spec.proofs.Homes.{size}
 use Rattle.form_types.specs.Placed.{placed_groups}
 use Rattle.form_types.proofs.Ruled.{size-places}
 use Rattle.module_types.proofs.FewTypes.{few as taken-few}
-use Rattle.module_environ.proofs.Excepting.{excepted, firsts-few}
-use Rattle.module_environ.specs.Types.{interned_at, interned_list, exception_functions}
+use Rattle.interned_types.proofs.Excepting.{excepted, firsts-few}
+use Rattle.interned_types.specs.Types.{interned_at, interned_list, exception_functions}
 
 module _ (m : plain.Module) where
   without : length (interned_list m false).types ≤ 2 * length (plain.types m) + length (plain.tags m)

@@ -11,7 +11,7 @@ use Rattle.wasm_index.specs.declared.spaces.PassiveElemSpace.{PassiveElemSpace}
 use Rattle.wasm_index.specs.declared.spaces.RuntimeDataSpace.{RuntimeDataSpace}
 use Rattle.wasm_index.specs.Index.{number_of}
 use Rattle.init_plan.specs.Views.{FindsInOrder}
-use Rattle.module_environ.specs.Initialisers.{passive_data_in, passive_data_from}
+use Rattle.module_sections.specs.Initialisers.{passive_data_in, passive_data_from}
 use Rattle.translate.specs.Also.{passive_bytes_of, Finds}
 
 -- ---- in order

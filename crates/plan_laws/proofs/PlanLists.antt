@@ -26,12 +26,12 @@ use Rattle.init_plan.specs.declared.translation.MemoryInit.{MemoryInit}
 use Rattle.init_plan.specs.declared.translation.MemoryInit.TheVariants as init
 use Rattle.init_plan.specs.declared.translation.ModuleTranslation.{ModuleTranslation}
 use Rattle.init_plan.specs.Views.{images_of, planned_segment_of, processed_of, memory_plan_of}
-use Rattle.module_environ.specs.Entities.{imports_after, resolved_import, resolved_export}
-use Rattle.module_environ.specs.Escapes.{AreSignatures}
+use Rattle.module_sections.specs.Entities.{imports_after, resolved_import, resolved_export}
+use Rattle.module_sections.specs.Escapes.{AreSignatures}
 use Rattle.init_plan.specs.Held.{simple_global_of}
-use Rattle.module_environ.specs.Initialisers.{initialisers, view_initialiser, view_items, view_segment, active_items, passive_data_from}
-use Rattle.module_environ.specs.Types.{look_up_in}
-use Rattle.module_environ.proofs.DeclaredLooks.{listed-long}
+use Rattle.module_sections.specs.Initialisers.{initialisers, view_initialiser, view_items, view_segment, active_items, passive_data_from}
+use Rattle.interned_types.specs.Types.{look_up_in}
+use Rattle.interned_types.proofs.DeclaredLooks.{listed-long}
 use Rattle.translate.specs.Also.{Finds, passive_bytes_of}
 use Rattle.translate.specs.Initialised.{IsInitialised}
 use Rattle.translate.specs.Options.{InitOptions, images, passive_bytes}

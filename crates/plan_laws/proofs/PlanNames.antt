@@ -15,7 +15,7 @@ use Rattle.wasm_module.specs.declared.initializer.Initializer.{Initializer}
 use Rattle.wasm_module.specs.declared.initializer.Initializer.TheVariants as initializer
 use Rattle.module_customs.specs.Names.{Text, named, module_names, HasLast, at_number}
 use Rattle.init_plan.specs.declared.translation.ModuleTranslation.{ModuleTranslation}
-use Rattle.module_environ.specs.Entities.{NamedEntity, brought, imports_after, exported_entities, text_at, resolved_import, resolved_export}
+use Rattle.module_sections.specs.Entities.{NamedEntity, brought, imports_after, exported_entities, text_at, resolved_import, resolved_export}
 use Rattle.translate.specs.Initialised.{IsInitialised}
 use Rattle.translate.specs.Options.{InitOptions}
 use Rattle.plan_laws.specs.Kept.{Rises}

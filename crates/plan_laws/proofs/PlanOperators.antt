@@ -30,8 +30,8 @@ use Rattle.init_plan.specs.declared.translation.MemorySegmentOffset.{MemorySegme
 use Rattle.init_plan.specs.declared.translation.MemorySegmentOffset.TheVariants as offset
 use Rattle.init_plan.specs.declared.translation.ModuleTranslation.{ModuleTranslation}
 use Rattle.init_plan.specs.Views.{planned_offset_of, planned_segment_of, processed_of}
-use Rattle.module_environ.specs.Initialisers.{initialisers, left_initialisers, view_initialiser, first_values, view_first_value, type_in, active_items, view_segment}
-use Rattle.module_environ.specs.Types.{look_up_in}
+use Rattle.module_sections.specs.Initialisers.{initialisers, left_initialisers, view_initialiser, first_values, view_first_value, type_in, active_items, view_segment}
+use Rattle.interned_types.specs.Types.{look_up_in}
 use Rattle.translate.specs.Initialised.{IsInitialised}
 use Rattle.translate.specs.Options.{InitOptions}
 use Rattle.plan_laws.specs.TextCosts.{value_operators, place_operators, segments_in}

@@ -41,9 +41,9 @@ use Rattle.init_plan.specs.declared.translation.ModuleTranslation.{ModuleTransla
 use Rattle.init_plan.specs.Startup.{startup_with}
 use Rattle.init_plan.specs.Tables.{own_tables, plan_of_tables}
 use Rattle.init_plan.specs.Views.{memory_plan_of, FindsInOrder}
-use Rattle.module_environ.specs.Initialisers.{view_initialiser, view_first_value, view_items, view_segment, passive_data_from}
+use Rattle.module_sections.specs.Initialisers.{view_initialiser, view_first_value, view_items, view_segment, passive_data_from}
 use Rattle.module_environ.specs.Customs.{names_asked}
-use Rattle.module_environ.specs.Types.{interned_list, type_index, look_up_in}
+use Rattle.interned_types.specs.Types.{interned_list, type_index, look_up_in}
 use Rattle.module_environ.specs.Readable.{IsReadable}
 use Rattle.plan_text.specs.declared.plan.Plan.{Plan}
 use Rattle.translate.specs.Also.{Finds, passive_bytes_of}

@@ -35,7 +35,7 @@ use Rattle.init_plan.specs.declared.translation.RuntimeBytes.{RuntimeBytes}
 use Rattle.init_plan.specs.declared.translation.RuntimeBytes.TheVariants as runtime
 use Rattle.init_plan.specs.Views.{bytes_of}
 use Rattle.module_customs.specs.Names.{Text}
-use Rattle.module_environ.specs.Initialisers.{view_items, view_segment}
+use Rattle.module_sections.specs.Initialisers.{view_items, view_segment}
 use Rattle.module_environ.specs.Metadata.{FunctionData, view_function}
 use Rattle.vm_offsets.specs.Context.{context_entries, context_size, entry_named}
 use Rattle.vm_offsets.specs.Layouts.{pointer_of}

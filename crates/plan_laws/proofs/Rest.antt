@@ -10,10 +10,11 @@ use Rattle.wasm_module.specs.Elements.{element_type, element_count}
 use Rattle.init_plan.specs.declared.translation.ModuleTranslation.{ModuleTranslation}
 use Rattle.init_plan.specs.Views.{passive_data_of}
 use Rattle.module_environ.specs.Customs.{HasCustoms}
-use Rattle.module_environ.specs.Initialisers.{passive_items, view_items, passive_numbers, passive_data_from}
+use Rattle.module_sections.specs.Initialisers.{passive_items, view_items, passive_numbers, passive_data_from}
 use Rattle.module_environ.specs.Pooled.{pool_of}
-use Rattle.module_environ.specs.Translation.{HasEntities, CountsImports, Escapes, NeedsHeap, HasGlobals, HasCode, HasTypes}
-use Rattle.module_environ.specs.Types.{look_up_in}
+use Rattle.module_environ.specs.Translation.{HasCode, HasTypes}
+use Rattle.module_sections.specs.Sections.{HasEntities, CountsImports, Escapes, NeedsHeap, HasGlobals}
+use Rattle.interned_types.specs.Types.{look_up_in}
 use Rattle.translate.specs.Options.{InitOptions}
 use Rattle.translate.specs.Initialised.{IsInitialised}
 

@@ -19,8 +19,8 @@ use Rattle.wasm_module.specs.declared.module.Module.{Module}
 use Rattle.wasm_module.specs.declared.table_initialization.TableSegmentElements.{TableSegmentElements}
 use Rattle.wasm_module.specs.declared.table_initialization.TableSegmentElements.TheVariants as elements
 use Rattle.wasm_module.specs.Elements.{element_type}
-use Rattle.module_environ.specs.Entities.{NamedEntity, text_at, resolved_import, resolved_export}
-use Rattle.module_environ.specs.Initialisers.{view_items}
+use Rattle.module_sections.specs.Entities.{NamedEntity, text_at, resolved_import, resolved_export}
+use Rattle.module_sections.specs.Initialisers.{view_items}
 use Rattle.plan_lines.specs.NameLines.{kind_number}
 use Rattle.plan_tables.specs.declared.record.ElementItemsRecord.{ElementItemsRecord}
 use Rattle.plan_tables.specs.declared.record.ExpressionsRecord.{ExpressionsRecord}

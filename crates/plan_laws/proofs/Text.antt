@@ -35,8 +35,8 @@ use Rattle.init_plan.specs.declared.translation.ModuleTranslation.{ModuleTransla
 use Rattle.init_plan.specs.declared.translation.MemoryInit.{MemoryInit}
 use Rattle.init_plan.specs.declared.translation.MemoryInit.TheVariants as init
 use Rattle.init_plan.specs.declared.translation.MemorySegmentOffset.{MemorySegmentOffset}
-use Rattle.module_environ.specs.Entities.{NamedEntity, text_at, resolved_import, resolved_export}
-use Rattle.module_environ.specs.Initialisers.{view_items, view_segment}
+use Rattle.module_sections.specs.Entities.{NamedEntity, text_at, resolved_import, resolved_export}
+use Rattle.module_sections.specs.Initialisers.{view_items, view_segment}
 use Rattle.vm_offsets.specs.Context.{context_size}
 use Rattle.vm_offsets.specs.Regions.{context_regions}
 use Rattle.plan_text.specs.declared.plan.Plan.{Plan}

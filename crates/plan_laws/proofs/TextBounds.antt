@@ -15,7 +15,7 @@ use Rattle.gc_layout.specs.Objects.{object_layout}
 use Rattle.init_plan.specs.declared.translation.ModuleTranslation.{ModuleTranslation}
 use Rattle.init_plan.specs.Tables.{own_tables, plan_of_tables}
 use Rattle.init_plan.specs.Views.{memory_plan_of}
-use Rattle.module_environ.specs.Types.{interned_list}
+use Rattle.interned_types.specs.Types.{interned_list}
 use Rattle.plan_text.specs.declared.plan.Plan.{Plan}
 use Rattle.translate.specs.Initialised.{IsInitialised}
 use Rattle.translate.specs.Options.{Options, header_size, startup_by, runs}

@@ -16,7 +16,7 @@ use Rattle.module_types.proofs.ListedLists.{listed}
 use Rattle.module_types.proofs.NamedLists.{well-named}
 use Rattle.module_types.proofs.NamingEarlier.{keeps-earlier}
 use Rattle.module_environ.specs.Readable.{IsReadable}
-use Rattle.module_environ.specs.Types.{interned_list}
+use Rattle.interned_types.specs.Types.{interned_list}
 use Rattle.translate.specs.Planned.{HoldsTypes}
 use Rattle.translate.proofs.FewTypes.{few-types}
 use Rattle.plan_laws.proofs.Told.{index-back, option-back, all-told}

@@ -20,8 +20,8 @@ use Rattle.init_plan.specs.declared.translation.MemoryInit.TheVariants as init
 use Rattle.init_plan.specs.declared.translation.MemorySegmentOffset.{MemorySegmentOffset}
 use Rattle.init_plan.specs.declared.translation.ModuleTranslation.{ModuleTranslation}
 use Rattle.init_plan.specs.Views.{hints_of, bytes_of, passive_data_of}
-use Rattle.module_environ.specs.Entities.{text_at, resolved_import, resolved_export}
-use Rattle.module_environ.specs.Initialisers.{view_items, view_segment}
+use Rattle.module_sections.specs.Entities.{text_at, resolved_import, resolved_export}
+use Rattle.module_sections.specs.Initialisers.{view_items, view_segment}
 use Rattle.module_environ.specs.Metadata.{view_function}
 use Rattle.vm_offsets.specs.Layouts.{fields_of}
 use Rattle.plan_text.specs.declared.plan.Plan.{Plan}

@@ -7,8 +7,8 @@ use Rattle.wasm_spec.specs.Module as plain
 use Rattle.type_spec.specs.Interned.{Built, with_exceptions, taken}
 use Rattle.form_types.specs.Placed.{placed_groups}
 use Rattle.entity_map.specs.Firsts.{firsts}
-use Rattle.module_environ.specs.Types.{interned_at, interned_list, exception_at, exception_functions}
-use Rattle.module_environ.proofs.Excepting.{excepted, longer}
+use Rattle.interned_types.specs.Types.{interned_at, interned_list, exception_at, exception_functions}
+use Rattle.interned_types.proofs.Excepting.{excepted, longer}
 
 exceptions-long : (start : Built) (ns : List ℕ) → length (with_exceptions start ns).types ≡ length start.types + length (firsts ns)
 exceptions-long start ns =

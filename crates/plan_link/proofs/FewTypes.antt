@@ -10,9 +10,9 @@ use Rattle.form_reader.proofs.Entries.{imported_few, types_few}
 use Rattle.form_types.specs.Placed.{placed_groups}
 use Rattle.form_types.proofs.Ruled.{size-places}
 use Rattle.module_types.proofs.FewTypes.{few as taken-few}
-use Rattle.module_environ.proofs.Excepting.{firsts-few}
+use Rattle.interned_types.proofs.Excepting.{firsts-few}
 use Rattle.module_environ.specs.Readable.{IsReadable}
-use Rattle.module_environ.specs.Types.{interned_at, interned_list}
+use Rattle.interned_types.specs.Types.{interned_at, interned_list}
 use Rattle.plan_link.proofs.Excepted.{listed-long}
 
 -- ---- of a module

@@ -34,8 +34,8 @@ use Rattle.wasm_module.specs.declared.module.Module.{Module}
 use Rattle.wasm_module.specs.Entities.{entity_type}
 use Rattle.wasm_module.specs.Imports.{IsResolved}
 use Rattle.wasm_module.specs.Record.{record_of}
-use Rattle.module_environ.specs.Entities.{NamedEntity, count_of, brought, imports_after, imported_entities, exported_entities, entity_at, resolved_import, resolved_export}
-use Rattle.module_environ.specs.Pooled.{HasText, HasTexts}
+use Rattle.module_sections.specs.Entities.{NamedEntity, count_of, brought, imports_after, imported_entities, exported_entities, entity_at, resolved_import, resolved_export}
+use Rattle.module_sections.specs.Pooled.{HasText, HasTexts}
 use Rattle.import_match.specs.Linking.{IsExportResolved}
 use Rattle.plan_link.proofs.TypesBelow.{HasTypesOf}
 

@@ -19,9 +19,10 @@ use Rattle.module_types.specs.TypeList.{TypeList}
 use Rattle.module_types.specs.Views.{interned_of}
 use Rattle.module_types.proofs.NamingEarlier.{keeps-earlier}
 use Rattle.init_plan.specs.declared.translation.ModuleTranslation.{ModuleTranslation}
-use Rattle.module_environ.specs.Escapes.{escaping}
+use Rattle.module_sections.specs.Escapes.{escaping}
 use Rattle.module_environ.specs.Translated.{IsTranslated, starts_always}
-use Rattle.module_environ.specs.Translation.{HasSections, HasTypes}
+use Rattle.module_environ.specs.Translation.{HasTypes}
+use Rattle.module_sections.specs.Sections.{HasSections}
 use Rattle.module_types.specs.Listed.{Listed}
 use Rattle.type_registry.specs.Registry.{registry_of, count_of}
 use Rattle.type_registry.specs.Keys.{key_number}

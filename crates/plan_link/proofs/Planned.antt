@@ -18,8 +18,8 @@ use Rattle.module_types.proofs.NamingEarlier.{keeps-earlier}
 use Rattle.init_plan.specs.declared.translation.ModuleTranslation.{ModuleTranslation}
 use Rattle.init_plan.specs.Tables.{plan_of_tables}
 use Rattle.init_plan.specs.Views.{memory_plan_of}
-use Rattle.module_environ.specs.Entities.{entity_at, resolved_export}
-use Rattle.module_environ.specs.Types.{interned_list}
+use Rattle.module_sections.specs.Entities.{entity_at, resolved_export}
+use Rattle.interned_types.specs.Types.{interned_list}
 use Rattle.plan_text.specs.declared.plan.Plan.{Plan}
 use Rattle.translate.specs.Initialised.{IsInitialised}
 use Rattle.translate.specs.Options.{Options, startup_by, runs}

@@ -35,13 +35,14 @@ use Rattle.wasm_module.specs.declared.module.Module.{Module}
 use Rattle.wasm_module.specs.ModuleData.{FunctionData, type_of_space, function_of, startup_of}
 use Rattle.wasm_module.specs.ModuleShapes.{startup_edges}
 use Rattle.module_types.proofs.NamingEarlier.{keeps-earlier}
-use Rattle.module_environ.specs.Types.{declared, declared_type, type_index, interned_list, look_up_in, exception_at}
-use Rattle.module_environ.specs.Entities.{function_types, tables_data, globals_data, tags_of}
-use Rattle.module_environ.specs.Escapes.{number_among}
+use Rattle.interned_types.specs.Types.{declared, declared_type, type_index, interned_list, look_up_in, exception_at}
+use Rattle.interned_types.specs.Tagged.{tags_of}
+use Rattle.module_sections.specs.Entities.{function_types, tables_data, globals_data}
+use Rattle.module_sections.specs.Escapes.{number_among}
 use Rattle.module_environ.specs.Translation.{startup_when}
-use Rattle.module_environ.proofs.Agreeing.{known-table, known-global, all-tables, all-globals}
-use Rattle.module_environ.proofs.DeclaredKinds.{function-below}
-use Rattle.module_environ.proofs.DeclaredLooks.{declared-long, declared-held}
+use Rattle.module_sections.proofs.Agreeing.{known-table, known-global, all-tables, all-globals}
+use Rattle.interned_types.proofs.DeclaredKinds.{function-below}
+use Rattle.interned_types.proofs.DeclaredLooks.{declared-long, declared-held}
 use Rattle.replay_spec.specs.Startup.{Startup, Never}
 use Rattle.init_plan.specs.Startup.{startup_with}
 use Rattle.translate.specs.Options.{runs}

@@ -4,7 +4,7 @@ use Rattle.init_plan.specs.declared.translation.ModuleTranslation.{ModuleTransla
 use Rattle.init_plan.specs.Views.{memory_plan_of}
 use Rattle.init_plan.specs.Tables.{plan_of_tables}
 use Rattle.wasm_spec.specs.Module.{Module}
-use Rattle.module_environ.specs.Types.{declared, type_index}
+use Rattle.interned_types.specs.Types.{declared, type_index}
 use Rattle.plan_text.specs.declared.plan.Plan.{Plan}
 use Rattle.translate.specs.Options.{Options, startup_by, runs}
 use Rattle.translate.specs.Planned.{IsPlanned}

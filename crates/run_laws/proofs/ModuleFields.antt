@@ -22,8 +22,8 @@ use Rattle.module_types.specs.TypeList.{TypeList}
 use Rattle.module_types.proofs.NamingEarlier.{keeps-earlier}
 use Rattle.init_plan.specs.Agreement.{fields_of}
 use Rattle.init_plan.specs.declared.translation.ModuleTranslation.{ModuleTranslation}
-use Rattle.module_environ.specs.Types.{declared, interned_at, interned_list, type_index}
-use Rattle.module_environ.proofs.DeclaredLooks.{declared-long}
+use Rattle.interned_types.specs.Types.{declared, interned_at, interned_list, type_index}
+use Rattle.interned_types.proofs.DeclaredLooks.{declared-long}
 use Rattle.plan_run.specs.Agreement.{HasFieldsOf}
 use Rattle.plan_run.specs.Fields.{field_count_in, length_or_zero, place_of}
 use Rattle.plan_run.proofs.Lists.{some-at}

@@ -13,7 +13,7 @@ use Rattle.init_plan.specs.Views.{memory_plan_of}
 use Rattle.init_plan.specs.Images.{image_memories}
 use Rattle.init_plan.specs.Tables.{plan_of_tables}
 use Rattle.module_environ.specs.Readable.{IsReadable}
-use Rattle.module_environ.specs.Translation.{HasSections}
+use Rattle.module_sections.specs.Sections.{HasSections}
 use Rattle.module_environ.specs.Translated.{IsReady}
 use Rattle.module_environ.proofs.Answering.{is_ready}
 use Rattle.translate.specs.Initialised.{IsInitialised}

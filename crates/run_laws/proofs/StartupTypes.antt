@@ -14,7 +14,7 @@ use Rattle.replay_spec.specs.Images.{ImageOptions}
 use Rattle.replay_spec.specs.Startup.{Startup, Never, Always, IfMemoriesNeedInit}
 use Rattle.init_plan.specs.declared.translation.ModuleTranslation.{ModuleTranslation}
 use Rattle.init_plan.specs.Startup.{types_after}
-use Rattle.module_environ.specs.Types.{declared, interned_list, type_index}
+use Rattle.interned_types.specs.Types.{declared, interned_list, type_index}
 use Rattle.module_environ.specs.Translated.{IsTranslated, HoldsTypes, startup_index_when, starts_always}
 use Rattle.translate.proofs.Unchanged.{both-planned}
 use Rattle.plan_run.specs.Agreement.{HasFieldsOf}

@@ -14,7 +14,7 @@ use Rattle.init_plan.specs.declared.translation.ModuleTranslation.{ModuleTransla
 use Rattle.init_plan.specs.Views.{memory_plan_of, initializers_of, passive_bytes}
 use Rattle.init_plan.specs.Images.{image_memories}
 use Rattle.init_plan.specs.Tables.{tables_of, elements_of, plan_of_tables}
-use Rattle.module_environ.specs.Translation.{HasEntities, CountsImports}
+use Rattle.module_sections.specs.Sections.{HasEntities, CountsImports}
 use Rattle.module_environ.specs.Translated.{IsTranslated}
 use Rattle.module_environ.proofs.Answering.{globals_split}
 use Rattle.plan_run.specs.Finished.{Finished}

@@ -13,7 +13,7 @@ ghost use Rattle.module_types.specs.Views.{interned_of};
 ghost use Rattle.replay_spec.specs.Images.{ImageOptions};
 ghost use Rattle.init_plan.specs.declared.translation.ModuleTranslation.{ModuleTranslation};
 ghost use Rattle.module_environ.specs.Translated.{IsTranslated};
-ghost use Rattle.module_environ.specs.Types.{declared, interned_list, type_index};
+ghost use Rattle.interned_types.specs.Types.{declared, interned_list, type_index};
 ghost use Rattle.plan_text.specs.declared.plan.Plan.{Plan};
 ghost use Rattle.translate.specs.Options.{Options};
 ghost use Rattle.translate.specs.Planned.{IsPlanned};

@@ -7,7 +7,7 @@ use Rattle.wasm_spec.specs.declared.operators.Operator.{Operator}
 use Rattle.wasm_spec.specs.declared.operators.Operator.TheVariants.{RefFunc}
 use Rattle.wasm_spec.specs.declared.entities.ExternalKind.TheVariants as kind
 use Rattle.wasm_spec.specs.Module.{Expression, TableDef, GlobalDef, Export, ElementItems, Element, Segment, Payload, Tables, Globals, Exports, Elements, Segments, Module}
-use Rattle.module_environ.specs.Escapes.{Ascend}
+use Rattle.module_sections.specs.Escapes.{Ascend}
 use Rattle.segment_tables.specs.Elements.{functions_in, expressions_in, offsets_in}
 use Rattle.segment_tables.specs.DataSegments.{data_offsets}
 use Rattle.wasm_spec.specs.declared.entities.ExternalKind.{ExternalKind}

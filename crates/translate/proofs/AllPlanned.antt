@@ -23,7 +23,7 @@ use Rattle.init_plan.specs.Views.{memory_plan_of, OnlyMemoryInitChanges}
 use Rattle.init_plan.proofs.Holding.{memories_same}
 use Rattle.init_plan.proofs.Agreeing.{agree_in_all}
 use Rattle.module_environ.specs.Translated.{IsTranslated}
-use Rattle.module_environ.specs.Types.{interned_list}
+use Rattle.interned_types.specs.Types.{interned_list}
 use Rattle.translate.specs.Options.{InitOptions, startup_by}
 use Rattle.translate.specs.Initialised.{Initialises}
 use Rattle.translate.proofs.PlannedMemories.{HoldsData, MemoriesTell, initialises_memories, memories_also}

@@ -25,11 +25,11 @@ use Rattle.init_plan.specs.Views.{memory_plan_of}
 use Rattle.init_plan.specs.Images.{HasTightImages}
 use Rattle.init_plan.specs.Tables.{plan_of_tables}
 use Rattle.module_environ.specs.Readable.{IsReadable}
-use Rattle.module_environ.specs.Initialisers.{view_segment, view_items, active_items}
+use Rattle.module_sections.specs.Initialisers.{view_segment, view_items, active_items}
 use Rattle.module_types.specs.Views.{interned_of}
 use Rattle.module_types.proofs.NamingEarlier.{keeps-earlier}
-use Rattle.module_environ.specs.Types.{look_up_in}
-use Rattle.module_environ.proofs.DeclaredLooks.{listed-long}
+use Rattle.interned_types.specs.Types.{look_up_in}
+use Rattle.interned_types.proofs.DeclaredLooks.{listed-long}
 use Rattle.plan_text.specs.declared.plan.Plan.{Plan}
 use Rattle.translate.specs.Options.{InitOptions, Options, images, passive_bytes, startup_by, runs}
 use Rattle.translate.specs.Initialised.{IsInitialised, OnlyInitChanges}

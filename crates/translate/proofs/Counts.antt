@@ -26,9 +26,9 @@ use Rattle.init_plan.specs.declared.translation.ModuleTranslation.{ModuleTransla
 use Rattle.init_plan.specs.Startup.{startup_with}
 use Rattle.init_plan.specs.Tables.{plan_of_tables}
 use Rattle.init_plan.specs.Views.{memory_plan_of}
-use Rattle.module_environ.specs.Escapes.{escaping}
+use Rattle.module_sections.specs.Escapes.{escaping}
 use Rattle.module_environ.specs.Readable.{IsReadable}
-use Rattle.module_environ.specs.Types.{interned_list, type_index}
+use Rattle.interned_types.specs.Types.{interned_list, type_index}
 use Rattle.translate.specs.Contexts.{context_of}
 use Rattle.translate.specs.Initialised.{IsInitialised}
 use Rattle.translate.specs.Options.{InitOptions, Options, startup_by, runs}

@@ -12,7 +12,7 @@ use Rattle.replay_spec.specs.Data.{ActiveSegment, active_of_kind}
 use Rattle.replay_spec.specs.Elements.{active_by}
 use Rattle.replay_spec.specs.Held.{held_segment}
 use Rattle.replay_spec.specs.Startup.{is_passive, passive_elements}
-use Rattle.module_environ.specs.Initialisers.{type_in, active_items, passive_data_in, passive_data_from}
+use Rattle.module_sections.specs.Initialisers.{type_in, active_items, passive_data_in, passive_data_from}
 
 abbrev of : {A : Type 0} → (TypeRef → Option A) → List Import → ℕ
 of kind is = length (filter_map (λ i. kind i.type) is)

@@ -8,8 +8,8 @@ use Rattle.rule_spec.specs.Rules.{Keeps}
 use Rattle.form_types.specs.Placed.{placed_groups}
 use Rattle.module_types.proofs.EqualLists.{declared}
 use Rattle.module_types.proofs.NamingEarlier.{keeps-earlier}
-use Rattle.module_environ.specs.Types.{interned_at}
-use Rattle.module_environ.proofs.DeclaredLooks.{declared-long}
+use Rattle.interned_types.specs.Types.{interned_at}
+use Rattle.interned_types.proofs.DeclaredLooks.{declared-long}
 
 -- two declared types have one index exactly where they are equal
 pub told-apart : (m : Module) → Keeps m → (i j : ℕ) → i < length (types m) → j < length (types m)

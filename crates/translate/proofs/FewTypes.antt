@@ -11,9 +11,9 @@ use Rattle.form_reader.proofs.Entries.{imported_few, sections_few, total_members
 use Rattle.form_types.specs.Placed.{placed_groups}
 use Rattle.form_types.proofs.Ruled.{size-places}
 use Rattle.module_types.proofs.FewTypes.{few as taken-few}
-use Rattle.module_environ.proofs.Excepting.{excepted, firsts-few}
+use Rattle.interned_types.proofs.Excepting.{excepted, firsts-few}
 use Rattle.module_environ.specs.Readable.{IsReadable}
-use Rattle.module_environ.specs.Types.{interned_at, interned_list, exception_functions}
+use Rattle.interned_types.specs.Types.{interned_at, interned_list, exception_functions}
 
 -- the list without a startup type: the types of groups, and one for each function type of tags
 listed-long : (m : plain.Module)

@@ -13,7 +13,7 @@ use Rattle.init_plan.specs.Views as held
 use Rattle.init_plan.specs.Images.{image_memories, BeginsByRule, HasTightImages, HasWholeRanges, HasRuntimeSize, WillHaveRuntimeSize}
 use Rattle.init_plan.specs.Held.{HoldsMemories}
 use Rattle.init_plan.specs.Tables.{OnlyTableInitChanges}
-use Rattle.module_environ.specs.Initialisers.{passive_data_from}
+use Rattle.module_sections.specs.Initialisers.{passive_data_from}
 use Rattle.translate.specs.Options.{InitOptions, images, passive_bytes, HasDataSize}
 use Rattle.rule_spec.specs.Rules.{Keeps}
 use Rattle.translate.specs.Also.{AlsoHolds}

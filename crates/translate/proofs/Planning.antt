@@ -16,7 +16,7 @@ use Rattle.module_types.specs.Builder.{BuilderState}
 use Rattle.init_plan.specs.declared.translation.ModuleTranslation.{ModuleTranslation}
 use Rattle.init_plan.specs.Views.{memory_plan_of}
 use Rattle.init_plan.specs.Tables.{plan_of_tables}
-use Rattle.module_environ.specs.Types.{interned_list}
+use Rattle.interned_types.specs.Types.{interned_list}
 use Rattle.plan_text.specs.declared.error.TranslateError.{TranslateError}
 use Rattle.plan_text.specs.declared.error.TranslateError.TheVariants as refusal
 use Rattle.gc_layout.specs.Objects.{gc_layout_of, fixed_size}

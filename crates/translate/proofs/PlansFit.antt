@@ -8,7 +8,7 @@ use Rattle.replay_spec.specs.Plan.{MemoryPlan}
 use Rattle.replay_spec.specs.Tables.{TablePlan}
 use Rattle.vm_offsets.specs.Context.{context_size}
 use Rattle.module_types.specs.Views.{interned_of}
-use Rattle.module_environ.specs.Types.{interned_list}
+use Rattle.interned_types.specs.Types.{interned_list}
 use Rattle.form_reader.proofs.SectionLaws.{module_once}
 use Rattle.translate.specs.Options.{Options, runs, startup_by, PlansMemories, PlansTables}
 use Rattle.translate.specs.Contexts.{context_of, HasLargeObject, HasSizes, size_of_context, Overflows}

@@ -6,7 +6,7 @@ use Rattle.std.proofs.lemmas.List.Elements.{All-nil, All-cons, All-weaker}
 use Rattle.wasm_spec.specs.Module.{DataKind, Passive, Active, Segment}
 use Rattle.replay_spec.specs.Plan.{MemoryPlan}
 use Rattle.init_plan.specs.Views.{FindsInOrder}
-use Rattle.module_environ.specs.Initialisers.{passive_data_in, passive_data_from}
+use Rattle.module_sections.specs.Initialisers.{passive_data_in, passive_data_from}
 use Rattle.translate.specs.Also.{Finds, bytes_if_passive, passive_bytes_of}
 
 -- ---- where passive segments are found

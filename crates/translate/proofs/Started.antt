@@ -11,7 +11,7 @@ use Rattle.replay_spec.specs.Startup.{Startup, Never, Always, leaves_nothing, ke
 use Rattle.replay_spec.specs.Tables.{TablePlan}
 use Rattle.module_types.specs.Builder.{Builder, starts}
 use Rattle.init_plan.specs.Startup.{startup_kind, startup_with, raised, types_after}
-use Rattle.module_environ.specs.Types.{interned_list, type_index}
+use Rattle.interned_types.specs.Types.{interned_list, type_index}
 use Rattle.module_environ.specs.Translated.{HoldsTypes, startup_index_when, starts_always}
 use Rattle.module_environ.specs.Translation.{startup_when}
 use Rattle.translate.specs.Options.{runs}

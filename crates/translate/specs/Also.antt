@@ -10,7 +10,7 @@ use Rattle.replay_spec.specs.Images.{image_memory_of}
 use Rattle.init_plan.specs.declared.translation.ModuleTranslation.{ModuleTranslation}
 use Rattle.init_plan.specs.Views.{memory_plan_of, ranges_of}
 use Rattle.init_plan.specs.Images.{HasTightImages, HasWholeRanges}
-use Rattle.module_environ.specs.Types.{interned_at}
+use Rattle.interned_types.specs.Types.{interned_at}
 use Rattle.translate.specs.Options.{InitOptions, images, passive_bytes}
 
 -- the bytes of a data segment that is passive

@@ -9,8 +9,8 @@ use Rattle.replay_spec.specs.Tables.{TablePlan}
 use Rattle.gc_layout.specs.Objects.{gc_layout_of, fixed_size}
 use Rattle.vm_offsets.specs.declared.fields.VMOffsetsFields.{VMOffsetsFields}
 use Rattle.vm_offsets.specs.Context.{context_size}
-use Rattle.module_environ.specs.Escapes.{escaping}
-use Rattle.module_environ.specs.Types.{interned_list}
+use Rattle.module_sections.specs.Escapes.{escaping}
+use Rattle.interned_types.specs.Types.{interned_list}
 use Rattle.translate.specs.Options.{Options, header_size, startup_by, runs, PlansMemories, PlansTables}
 
 -- the bytes of an object of a type; of an array, those before its elements

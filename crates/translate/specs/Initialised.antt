@@ -12,10 +12,10 @@ use Rattle.init_plan.specs.Tables.{plan_of_tables, AreCounted}
 use Rattle.init_plan.specs.Held.{plan_of_globals}
 use Rattle.init_plan.specs.Agreement.{AgreesInAll}
 use Rattle.init_plan.specs.Startup.{startup_with}
-use Rattle.module_environ.specs.Initialisers.{passive_data_from}
+use Rattle.module_sections.specs.Initialisers.{passive_data_from}
 use Rattle.module_environ.specs.Readable.{IsReadable}
 use Rattle.module_environ.specs.Translation.{IsTranslation}
-use Rattle.module_environ.specs.Types.{interned_list, type_index}
+use Rattle.interned_types.specs.Types.{interned_list, type_index}
 use Rattle.translate.specs.Options.{InitOptions, images, passive_bytes, startup_by, runs, BecomesImages, PlansMemories, PlansTables}
 use Rattle.translate.specs.Also.{AlsoHolds}
 

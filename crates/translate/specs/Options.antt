@@ -9,7 +9,7 @@ use Rattle.replay_spec.specs.Plan.{MemoryPlan}
 use Rattle.replay_spec.specs.Startup.{Startup, Never, Always, IfMemoriesNeedInit, startup_of}
 use Rattle.replay_spec.specs.Tables.{TablePlan, IsTablePlan}
 use Rattle.init_plan.specs.Images.{image_options, HasRuntimeSize}
-use Rattle.module_environ.specs.Initialisers.{passive_data_from}
+use Rattle.module_sections.specs.Initialisers.{passive_data_from}
 use Rattle.command_words.specs.declared.command.Collector.{Collector}
 use Rattle.command_words.specs.declared.command.Collector.TheVariants.{Drc, Null}
 use Rattle.command_words.specs.declared.command.Command.{Command}

@@ -13,7 +13,7 @@ use Rattle.init_plan.specs.Tables.{plan_of_tables}
 use Rattle.gc_layout.specs.Objects.{object_layout, gc_layout_of}
 use Rattle.vm_offsets.specs.Layouts.{fields_of}
 use Rattle.module_environ.specs.Readable.{IsReadable, Breaks}
-use Rattle.module_environ.specs.Types.{interned_list}
+use Rattle.interned_types.specs.Types.{interned_list}
 use Rattle.plan_text.specs.declared.plan.Plan.{Plan}
 use Rattle.plan_text.specs.declared.error.TranslateError.{TranslateError}
 use Rattle.plan_text.specs.declared.error.TranslateError.TheVariants as refusal

@@ -5,9 +5,10 @@ use Rattle.module_customs.specs.Names.{KeepsNames}
 use Rattle.init_plan.specs.declared.debug_info.FunctionMetadata.{FunctionMetadata}
 use Rattle.init_plan.specs.declared.translation.ModuleTranslation.{ModuleTranslation}
 use Rattle.module_environ.specs.Customs.{HasCustoms, names_asked}
-use Rattle.module_environ.specs.Filling.{module_in}
+use Rattle.module_sections.specs.Filling.{module_in}
 use Rattle.module_environ.specs.Metadata.{view_function}
-use Rattle.module_environ.specs.Pooled.{with_texts, own_name}
+use Rattle.module_environ.specs.Pooled.{own_name}
+use Rattle.module_sections.specs.Pooled.{with_texts}
 use Rattle.module_environ.proofs.AskedHints.{hints-set}
 use Rattle.module_environ.proofs.customs.fill_customs.Goals as goal
 

@@ -9,7 +9,7 @@ use Rattle.wasm_types.specs.declared.value.WasmValType.{WasmValType}
 use Rattle.wasm_types.specs.ValueViews.{value_of as view_value}
 use Rattle.wasm_convert.specs.Known.{Known}
 use Rattle.module_environ.specs.Metadata.{KnowsParams, params_to}
-use Rattle.module_environ.proofs.BySection.{at-item, made-more}
+use Rattle.module_sections.proofs.BySection.{at-item, made-more}
 use Rattle.module_environ.proofs.metadata.add_params.Goals as goal
 
 pub convert_types-requires : goal.convert_types-requires

@@ -9,9 +9,9 @@ use Rattle.rule_spec.specs.References.{BodyRefersIn}
 use Rattle.form_reader.specs.Views.{body_of}
 use Rattle.form_rules.specs.Sections.{entries_left}
 use Rattle.init_plan.specs.declared.debug_info.FunctionMetadata.{FunctionMetadata}
-use Rattle.module_environ.specs.Filling.{module_in}
+use Rattle.module_sections.specs.Filling.{module_in}
 use Rattle.module_environ.specs.Metadata.{function_data, view_function}
-use Rattle.module_environ.specs.Types.{look_up_in}
+use Rattle.interned_types.specs.Types.{look_up_in}
 use Rattle.module_environ.proofs.AlikeFunctions.{bodies-counted, locals-known, metadata, metadata_more}
 use Rattle.module_environ.proofs.metadata.function_metadata.Goals as goal
 

@@ -5,9 +5,9 @@ use Rattle.rule_spec.specs.Lists.{lists_of_module}
 use Rattle.rule_spec.specs.References.{BodyRefersIn}
 use Rattle.form_reader.specs.Views.{body_of}
 use Rattle.form_rules.specs.Sections.{entries_left}
-use Rattle.module_environ.specs.Filling.{module_in}
+use Rattle.module_sections.specs.Filling.{module_in}
 use Rattle.module_environ.specs.Metadata.{function_data, view_function}
-use Rattle.module_environ.specs.Types.{look_up_in}
+use Rattle.interned_types.specs.Types.{look_up_in}
 use Rattle.module_environ.proofs.metadata.function_metadata.Given as goal
 
 -- with the metadata of the remaining bodies, all are there

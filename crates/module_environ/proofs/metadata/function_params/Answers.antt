@@ -5,11 +5,11 @@ use Rattle.wasm_spec.specs.TypeData.{map_value}
 use Rattle.wasm_types.specs.declared.value.WasmValType.{WasmValType}
 use Rattle.wasm_types.specs.ValueViews.{value_of as view_value}
 use Rattle.rule_spec.specs.Lists.{lists_of_module}
-use Rattle.module_environ.specs.Filling.{module_in}
+use Rattle.module_sections.specs.Filling.{module_in}
 use Rattle.module_environ.specs.Metadata.{params_at}
-use Rattle.module_environ.specs.Types.{look_up_in}
+use Rattle.interned_types.specs.Types.{look_up_in}
 use Rattle.module_environ.proofs.AlikeFunctions.{params-some, params-none}
-use Rattle.module_environ.proofs.FilledSections.{functions-are}
+use Rattle.module_sections.proofs.FilledSections.{functions-are}
 use Rattle.module_environ.proofs.metadata.function_params.Goals as goal
 
 pub returns-in_ok-clone-in-Some : goal.returns-in_ok-clone-in-Some

@@ -8,7 +8,7 @@ use Rattle.form_types.specs.Types.{NamedGroup, types_by_id}
 use Rattle.wasm_types.specs.ValueViews.{value_of as view_value}
 use Rattle.module_environ.specs.Metadata.{KnowsParams, params_to}
 use Rattle.module_environ.proofs.AlikeFunctions.{types-known, types-alike}
-use Rattle.module_environ.proofs.Filling.{added_more}
+use Rattle.module_sections.proofs.Filling.{added_more}
 use Rattle.module_environ.proofs.metadata.params_by_type.Goals as goal
 
 -- at the end none remained

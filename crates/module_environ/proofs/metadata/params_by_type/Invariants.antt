@@ -5,7 +5,7 @@ use Rattle.form_reader.specs.TypeRows.{group}
 use Rattle.form_rules.specs.Walk.{walk_left}
 use Rattle.form_types.specs.Types.{types_by_id}
 use Rattle.wasm_types.specs.ValueViews.{value_of as view_value}
-use Rattle.module_environ.specs.Filling.{module_in}
+use Rattle.module_sections.specs.Filling.{module_in}
 use Rattle.module_environ.specs.Metadata.{KnowsParams, params_to}
 use Rattle.module_environ.proofs.metadata.params_by_type.Given as goal
 

@@ -2,12 +2,15 @@ use Rattle.std.proofs.Common.{◌∙◌, sym, ap, subst, ◌≡◌, Bool, List, 
 use Rattle.std.specs.Prelude.{IfSome, ℕ}
 use Rattle.wasm_spec.specs.Module as plain
 use Rattle.init_plan.specs.declared.translation.ModuleTranslation.{ModuleTranslation}
-use Rattle.module_environ.specs.Filling.{module_in, LeavesRest, OnlyCustomsChange}
-use Rattle.module_environ.specs.Pooled.{with_texts, own_name, HasText}
-use Rattle.module_environ.specs.Translation.{HasEntities, HasSections}
-use Rattle.module_environ.proofs.DeclaredLooks.{looks-declared}
-use Rattle.module_environ.proofs.FilledSections.{carried-looks}
-use Rattle.module_environ.proofs.GrownPool.{names-pooled, pooled-all, GrowsBy, grows-within, length-own, imports-grown, exports-grown, names-grown, pooled-grown}
+use Rattle.module_environ.specs.Customs.{OnlyCustomsChange}
+use Rattle.module_sections.specs.Filling.{module_in, LeavesRest}
+use Rattle.module_environ.specs.Pooled.{own_name}
+use Rattle.module_sections.specs.Pooled.{with_texts, HasText}
+use Rattle.module_sections.specs.Sections.{HasEntities, HasSections}
+use Rattle.interned_types.proofs.DeclaredLooks.{looks-declared}
+use Rattle.module_sections.proofs.FilledSections.{carried-looks}
+use Rattle.module_environ.proofs.PooledNames.{pooled-all, length-own}
+use Rattle.module_sections.proofs.GrownPool.{names-pooled, GrowsBy, grows-within, imports-grown, exports-grown, names-grown, pooled-grown}
 use Rattle.module_environ.proofs.translating.fill_lists.OwnLists.{same-1-1}
 use Rattle.module_environ.proofs.translating.fill_lists.Goals as goal
 

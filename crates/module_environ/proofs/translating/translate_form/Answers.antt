@@ -10,7 +10,7 @@ use Rattle.form_rules.specs.Source.{source_module}
 use Rattle.form_rules.specs.Names.{exported_names}
 use Rattle.module_types.specs.Builder.{builder_view}
 use Rattle.module_environ.specs.Errors.{error_of_check}
-use Rattle.module_environ.specs.OnTheWay.{IsOnTheWay}
+use Rattle.interned_types.specs.OnTheWay.{IsOnTheWay}
 use Rattle.module_environ.proofs.WayPlaces.{none_else, unchanged, told_poisoned, stops-anyhow}
 use Rattle.module_environ.proofs.WholeTranslation.{check-cause}
 use Rattle.module_environ.proofs.translating.translate_form.Goals as goal

@@ -38,24 +38,24 @@ returns-in_default-u32_at-clause-left c =
     c.in-Some.count c.maps.counter c.maps.rest.now _ c.maps-test.true
     (locals_none c.maps.rest.now c.in_default-u32_at.ensures) c.maps.invariant).left
 
-pub returns-in_default-3-clause-added : goal.returns-in_default-3-clause-added
-returns-in_default-3-clause-added c =
+pub returns-in_default-2-clause-added : goal.returns-in_default-2-clause-added
+returns-in_default-2-clause-added c =
     let id = c.args.subsection in
     let inside = names_before c.in-Some-u32_at.map.now in
     let x : One = (c.in-Some-u32_at.outer, inside.0) in
     let read = local_step c.maps.rest.now c.in-Some-u32_at.outer c.in-Some-u32_at.map.now inside.0 None c.in-Some-u32_at.ensures refl
-    (rw c.in_default-3.is at c.in_ok-after.ensures.left) in
+    (rw c.in_default-2.is at c.in_ok-after.ensures.left) in
     c.in_ok-after.ensures.added
     ∙ (ends locals_before (indirect_entries id) (map entry_of c.args.entries.now.items) (in_one id) (indirect_push id) (map entry_of c.maps.entries.items)
     c.in-Some.count c.maps.counter c.maps.rest.now x _ c.maps-test.true read c.maps.invariant).entries
 
-pub returns-in_default-3-clause-left : goal.returns-in_default-3-clause-left
-returns-in_default-3-clause-left c =
+pub returns-in_default-2-clause-left : goal.returns-in_default-2-clause-left
+returns-in_default-2-clause-left c =
     let id = c.args.subsection in
     let inside = names_before c.in-Some-u32_at.map.now in
     let x : One = (c.in-Some-u32_at.outer, inside.0) in
     let read = local_step c.maps.rest.now c.in-Some-u32_at.outer c.in-Some-u32_at.map.now inside.0 None c.in-Some-u32_at.ensures refl
-    (rw c.in_default-3.is at c.in_ok-after.ensures.left) in
+    (rw c.in_default-2.is at c.in_ok-after.ensures.left) in
     (ends locals_before (indirect_entries id) (map entry_of c.args.entries.now.items) (in_one id) (indirect_push id) (map entry_of c.maps.entries.items)
     c.in-Some.count c.maps.counter c.maps.rest.now x _ c.maps-test.true read c.maps.invariant).left
 
@@ -65,12 +65,12 @@ maps-preserved c =
     let old = map entry_of c.args.entries.now.items in
     let inside = names_before c.in-Some-u32_at.map.now in
     let x : One = (c.in-Some-u32_at.outer, inside.0) in
-    let read = local_step c.maps.rest.now c.in-Some-u32_at.outer c.in-Some-u32_at.map.now inside.0 (Some c.in-Some-3.after.now) c.in-Some-u32_at.ensures
-    refl (rw c.in-Some-3.is at c.in_ok-after.ensures.left) in
+    let read = local_step c.maps.rest.now c.in-Some-u32_at.outer c.in-Some-u32_at.map.now inside.0 (Some c.in-Some-2.after.now) c.in-Some-u32_at.ensures
+    refl (rw c.in-Some-2.is at c.in_ok-after.ensures.left) in
     let now = more locals_before (indirect_entries id) old (in_one id) (indirect_push id) (map entry_of c.maps.entries.items)
-    c.in-Some.count c.maps.counter c.maps.rest.now x c.in-Some-3.after.now _ c.maps-test.true read c.maps.invariant in
+    c.in-Some.count c.maps.counter c.maps.rest.now x c.in-Some-2.after.now _ c.maps-test.true read c.maps.invariant in
     subst (λ (l : List Entry).
-    Adds locals_before (indirect_entries id) old l (c.in-Some.count - (c.maps.counter + 1)) c.in-Some-3.after.now (vector_before locals_before c.args.bytes.now))
+    Adds locals_before (indirect_entries id) old l (c.in-Some.count - (c.maps.counter + 1)) c.in-Some-2.after.now (vector_before locals_before c.args.bytes.now))
     (sym c.in_ok-after.ensures.added) now
 
 pub returns-clause-added : goal.returns-clause-added

@@ -1,5 +1,0 @@
-use Rattle.module_environ.proofs.ImportPlaces.{import-place}
-use Rattle.module_environ.proofs.import_laws.import_position_law.Goals as goal
-
-pub returns : goal.returns
-returns c = import-place

@@ -1,0 +1,15 @@
+pub mod Escapes
+pub mod EscapeLog
+pub mod Numbers
+pub mod Convertible
+pub mod Segments
+pub mod Entities
+pub mod Initialisers
+pub mod Causes
+pub mod Filling
+pub mod FirstGlobals
+pub mod Worked
+pub mod Pooled
+pub mod Imported
+pub mod Exported
+pub mod Sections
