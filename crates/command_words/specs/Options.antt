@@ -9,17 +9,17 @@ use Rattle.command_words.specs.declared.settings.Setting.TheVariants.{Cow, LazyT
 use Rattle.command_words.specs.declared.settings.Setting.TheVariants.{Page, MaxImage, Ptr4, Ptr8, GcDrc, GcNull}
 
 -- an option: its kind, of which a command has one at most, its word, and what it sets
-pub record Row : Type 0 where
+pub record OptionRow : Type 0 where
   pub kind : ℕ
   pub word : List ℕ
   pub sets : Command → Command
 
 -- the option that changes the switches so
-abbrev pub switch : ℕ → List ℕ → (Tunables → Tunables) → Row
+abbrev pub switch : ℕ → List ℕ → (Tunables → Tunables) → OptionRow
 switch kind word f = record { kind = kind; word = word; sets = λ c. record c { tunables = f c.tunables } }
 
 -- the table of the options
-abbrev pub row : Setting → Row
+abbrev pub row : Setting → OptionRow
 row Cow = switch 0 (codes "--cow") (λ t. record t { memory_init_cow = true })
 row LazyTables = switch 1 (codes "--lazy-tables") (λ t. record t { table_lazy_init = true })
 row BranchHints = switch 2 (codes "--branch-hints") (λ t. record t { branch_hinting = true })

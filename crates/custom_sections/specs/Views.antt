@@ -4,7 +4,7 @@ use Rattle.std.specs.Option.{option_map}
 use Rattle.std.specs.Borrow.{Bor}
 use Rattle.std.specs.Global.{Vec}
 use Rattle.custom_sections.specs.declared.hints.Hint.{Hint}
-use Rattle.custom_sections.specs.declared.names.Names.{Names}
+use Rattle.custom_sections.specs.declared.names.SectionNames.{SectionNames}
 use Rattle.custom_sections.specs.NameLists.{NameLists}
 
 -- a function with its hints
@@ -19,7 +19,7 @@ text_of e = (e.0, e.1.now)
 abbrev pub locals_of : ℕ × Vec (ℕ × Bor (List ℕ)) → ℕ × List (ℕ × List ℕ)
 locals_of e = (e.0, map text_of e.1.items)
 
-abbrev pub names_of : Names → NameLists
+abbrev pub names_of : SectionNames → NameLists
 names_of n = record {
   module_name = option_map (λ text. text.now) n.module_name;
   functions = map text_of n.functions.items;

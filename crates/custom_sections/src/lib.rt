@@ -29,5 +29,5 @@ pub use debug::is_debug_name;
 pub use hints::{Hint, read_hints};
 pub use laws::{spelled_hints_are_read, spelled_names_are_read, told_names_are_read};
 pub use name_parts::{is_filled, naming, sized_subsection, whole_name};
-pub use names::{Names, read_names};
+pub use names::{SectionNames, read_names};
 pub use worked::{worked_cut_names, worked_debug_names, worked_hints, worked_names};

@@ -23,7 +23,7 @@ const LOCALS: u8 = 2;
 /// What a name section gives, as far as it could be read. Names are in the order of the section; of
 /// several for one index, the last one counts.
 #[derive(Drop)]
-pub struct Names<'d> {
+pub struct SectionNames<'d> {
     pub module_name: Option<&'d str>,
     pub functions: Vec<(u32, &'d str)>,
     /// Functions, and the names of their locals by the locals' indices.
@@ -82,7 +82,7 @@ fn add_locals<'d>(
     Ok(Some(rest))
 }
 
-impl<'d> Names<'d> {
+impl<'d> SectionNames<'d> {
     /// Adds the names of a subsection, those of locals where the caller requires them; returns
     /// whether they fill it.
     fn add(
@@ -119,10 +119,10 @@ pub fn read_names<'d>(
     alloc: Global,
     contents: &'d [u8],
     locals: bool,
-) -> Result<Names<'d>, OutOfMemory>
+) -> Result<SectionNames<'d>, OutOfMemory>
     ensures { IfOk result (λ names. names_of names ≡ names_of_section locals contents.now) }
 {
-    let mut names = Names {
+    let mut names = SectionNames {
         module_name: None,
         functions: Vec::new(alloc),
         locals: Vec::new(alloc),

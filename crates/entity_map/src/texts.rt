@@ -8,37 +8,37 @@ use std::marker::Model;
 
 /// The range of a text in its buffer. The buffer has fewer than 2^32 bytes, so a range takes eight.
 #[derive(Clone, Copy)]
-pub(crate) struct Place {
+pub(crate) struct TextRange {
     start: u32,
     end: u32,
 }
 
 /// The range of this many bytes after a buffer of `start` bytes.
-fn place_of(start: usize, length: usize) -> Option<Place>
+fn text_range(start: usize, length: usize) -> Option<TextRange>
     ensures { IfSome result (λ place. (place.start ≡ start) × (place.end ≡ start + length)) }
 {
     let start = u32::try_from(start).ok()?;
     let end = start.checked_add(u32::try_from(length).ok()?)?;
-    Some(Place { start, end })
+    Some(TextRange { start, end })
 }
 
 /// A list of texts, which needs two allocations in all.
 #[derive(Drop)]
 pub(crate) struct Texts {
     buffer: String,
-    places: Vec<Place>,
+    places: Vec<TextRange>,
 }
 
 impl Model for Texts {
     ghost use Rattle.std.specs.Prelude.{ℕ, List, All, map};
     ghost use Rattle.std.specs.String.{string_bytes};
-    ghost use Rattle.entity_map.specs.Texts.{text_in, IsCut};
+    ghost use Rattle.entity_map.specs.Texts.{text_in, IsTextRange};
 
     ghost Value = { List (List ℕ) };
 
     ghost view = { λ texts. map (text_in (string_bytes texts.buffer)) texts.places.items };
 
-    ghost invariant = { λ texts. All (IsCut (string_bytes texts.buffer)) texts.places.items };
+    ghost invariant = { λ texts. All (IsTextRange (string_bytes texts.buffer)) texts.places.items };
 }
 
 impl Texts {
@@ -65,7 +65,7 @@ impl Texts {
         ensures ok { OnOk result (self.new ≡ self.old ++ text.now ∷ []) }
         ensures err { OnErr result (self.new ≡ self.old) }
     {
-        let Some(place) = place_of(self.buffer.len(), text.len()) else {
+        let Some(place) = text_range(self.buffer.len(), text.len()) else {
             return Err(OutOfMemory);
         };
         self.places.reserve(1)?;

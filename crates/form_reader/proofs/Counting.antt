@@ -10,7 +10,7 @@ use Rattle.wasm_spec.specs.TypeData.{Group}
 use Rattle.wasm_spec.specs.Module as plain
 use Rattle.wasm_spec.specs.Module.{Module, Types, Imports, imports, imports_of_section, imported_of, groups_of_section, function_types_of_section, tables_of_section, memories_of_section, tags_of_section, globals_of_section, types, functions, tables, memories, globals, tags, function_import, table_import, memory_import, global_import, tag_import, HasFewEntries}
 use Rattle.form_reader.specs.declared.form.Counts.{Counts}
-use Rattle.form_reader.specs.Counted.{counts_of, HasRoom, CountsMore}
+use Rattle.form_reader.specs.Counted.{counts_of, SizesFit, CountsMore}
 
 -- each index space of the complete module is as long as those of two parts together
 pub record Joins (whole one other : Module) : Type 0 where
@@ -110,9 +110,9 @@ CountsMore-both a b c whole one other j ab bc = record {
 }
 
 -- the sizes fit in 32 bits with the second of three parts
-HasRoom-next : (a b : Counts) (whole one rest other last : Module) → Joins whole one rest → Joins rest other last → HasRoom a whole
-    → CountsMore a b one → HasRoom b other
-HasRoom-next a b whole one rest other last j k room ab = record {
+SizesFit-next : (a b : Counts) (whole one rest other last : Module) → Joins whole one rest → Joins rest other last → SizesFit a whole
+    → CountsMore a b one → SizesFit b other
+SizesFit-next a b whole one rest other last j k room ab = record {
   types = omega (arith, j.types, k.types, ab.types, room.types);
   functions = omega (arith, j.functions, k.functions, ab.functions, room.functions);
   tables = omega (arith, j.tables, k.tables, ab.tables, room.tables);
@@ -131,25 +131,25 @@ module _ {X Y : Type 0} (item_of : X → Y) (made : List Y → Module) (join : (
       subst (λ (ys : List Y). CountsMore a c (made ys)) (sym more)
       (CountsMore-both a b c _ _ _ (join (map item_of (take k xs)) (item_of x ∷ [])) ab bc)
 
-  pub HasRoom-item : (a b : Counts) (xs : List X) (k : ℕ) (x : X) → k < length xs → x ≡ get_or xs k x → HasRoom a (made (map item_of xs))
-      → CountsMore a b (made (map item_of (take k xs))) → HasRoom b (made (item_of x ∷ []))
-  HasRoom-item a b xs k x lt is room ab =
+  pub SizesFit-item : (a b : Counts) (xs : List X) (k : ℕ) (x : X) → k < length xs → x ≡ get_or xs k x → SizesFit a (made (map item_of xs))
+      → CountsMore a b (made (map item_of (take k xs))) → SizesFit b (made (item_of x ∷ []))
+  SizesFit-item a b xs k x lt is room ab =
       let front = map item_of (take k xs) in
       let back = map item_of (drop (suc k) xs) in
       let parts : map item_of xs ≡ front ++ ((item_of x ∷ []) ++ back) =
       ap (map item_of) (sym (take-append-drop k xs)
       ∙ ap (λ (ys : List X). take k xs ++ ys) (drop-cons xs k x lt ∙ ap (λ (y : X). y ∷ drop (suc k) xs) (sym is)))
       ∙ map-append item_of (take k xs) (x ∷ drop (suc k) xs) in
-      HasRoom-next a b _ _ _ _ _ (join front ((item_of x ∷ []) ++ back)) (join (item_of x ∷ []) back)
-      (subst (λ (ys : List Y). HasRoom a (made ys)) parts room) ab
+      SizesFit-next a b _ _ _ _ _ (join front ((item_of x ∷ []) ++ back)) (join (item_of x ∷ []) back)
+      (subst (λ (ys : List Y). SizesFit a (made ys)) parts room) ab
 
 -- ---- counting of a complete module
 
 abbrev pub no_entries : Counts
 no_entries = counts_of []
 
-pub HasRoom-few : (m : Module) → HasFewEntries m → HasRoom no_entries m
-HasRoom-few m few = record {
+pub SizesFit-few : (m : Module) → HasFewEntries m → SizesFit no_entries m
+SizesFit-few m few = record {
   types = omega (arith, few.types);
   functions = omega (arith, few.functions);
   tables = omega (arith, few.tables);

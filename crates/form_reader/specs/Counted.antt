@@ -17,7 +17,7 @@ counts_of m = record {
 -- ---- while they are counted
 
 -- the sizes fit in 32 bits with the entries of these sections too
-pub record HasRoom (old : Counts) (m : Module) : Type 0 where
+pub record SizesFit (old : Counts) (m : Module) : Type 0 where
   pub types : old.types + length (types m) < 2 ^ 32
   pub functions : old.functions + length (functions m) < 2 ^ 32
   pub tables : old.tables + length (tables m) < 2 ^ 32

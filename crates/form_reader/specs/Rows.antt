@@ -19,7 +19,7 @@ pub record Row {A : Type 0} (part : Part A) : Type 0 where
   pub agrees : Agrees read part
 
 -- how a part is read that takes all remaining bytes
-pub record Contents {A : Type 0} (part : Part A) : Type 0 where
+pub record RestRow {A : Type 0} (part : Part A) : Type 0 where
   pub read : Filler A
   pub agrees : Fills read part
 
@@ -49,7 +49,7 @@ raw_bytes n = record { read = at.raw_bytes_at n; agrees = law.raw_bytes_agree n 
 abbrev pub counted_bytes : Row part.counted_bytes
 counted_bytes = record { read = number.counted_bytes_at; agrees = law_of.counted_bytes_agree }
 
-abbrev pub all_bytes_as : {A : Type 0} → (f : List ℕ → A) → Contents (part.all_bytes_as f)
+abbrev pub all_bytes_as : {A : Type 0} → (f : List ℕ → A) → RestRow (part.all_bytes_as f)
 all_bytes_as f = record { read = at.all_bytes_at f; agrees = law.all_bytes_fill f }
 
 -- ---- how rows are combined
@@ -84,10 +84,10 @@ measured p = record { read = at.measured_at p.read; agrees = made.measured_agree
 -- ---- contents that fill a size
 
 -- a value, and then contents that fill the rest
-abbrev pub fill_after : {A B : Type 0} {g : Part A} {h : A → Part B} → Row g → ((x : A) → Contents (h x)) → Contents (part.◌>>=◌ g h)
+abbrev pub fill_after : {A B : Type 0} {g : Part A} {h : A → Part B} → Row g → ((x : A) → RestRow (h x)) → RestRow (part.◌>>=◌ g h)
 fill_after first second = record { read = at.fill_after first.read (λ x. (second x).read); agrees = law.fill_after_fills first.agrees (λ x. (second x).agrees) }
 
-abbrev pub sized : {A : Type 0} {g : Part A} → Contents g → Row (part.sized g)
+abbrev pub sized : {A : Type 0} {g : Part A} → RestRow g → Row (part.sized g)
 sized p = record { read = number.sized_at p.read; agrees = law_of.sized_agrees p.agrees }
 
 -- a part that fills n bytes, converted to a value

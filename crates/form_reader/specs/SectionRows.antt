@@ -10,7 +10,7 @@ use Rattle.wasm_spec.specs.Grammar as grammar
 use Rattle.form_reader.specs.ReadingNumbers.{name_at}
 use Rattle.form_reader.specs.Agrees.{Agrees, checked_agrees, Fills, err, ok_is, ok_not_err, nothing_agrees, choose_agrees}
 use Rattle.form_reader.specs.NumberLaws.{counted_bytes_agree}
-use Rattle.form_reader.specs.Rows.{Row, ◌>>=◌, gives, nothing, stops_at, unsigned, counted_bytes, all_bytes_as, choose, first_byte, vector, fill_after, sized, Contents, measured, filled_as, sized_as}
+use Rattle.form_reader.specs.Rows.{Row, ◌>>=◌, gives, nothing, stops_at, unsigned, counted_bytes, all_bytes_as, choose, first_byte, vector, fill_after, sized, RestRow, measured, filled_as, sized_as}
 use Rattle.form_reader.specs.TypeRows.{reference_after, reference_type, value_type, memory_type, table_limits, table_type, global_type, tag_type, group}
 use Rattle.form_reader.specs.ExpressionLaws.{expression}
 use Rattle.std.proofs.Common.{◌≡◌, ℕ, ◌+◌, List, [], ◌∷◌, Option, Some, None, Ok, Err, Bool, true, false, cond, refl, sym, ◌∙◌, arith, inl, inr}
@@ -224,7 +224,7 @@ custom_taken_fills n = record {
   stops_again : (bytes : List ℕ) (w : What) → Contains interface_names n × (w ≡ what.InterfaceTypes) → custom_after_at n bytes ≡ Err (Stops w)
   stops_again bytes w s = rw (is_interface n s.0, s.1) refl
 
-abbrev pub custom_after : (n : List ℕ) → Contents (custom_taken n)
+abbrev pub custom_after : (n : List ℕ) → RestRow (custom_taken n)
 custom_after n = record { read = custom_after_at n; agrees = custom_taken_fills n }
 
 -- a section whose custom ones are spelled in some way after their names
@@ -232,7 +232,7 @@ abbrev pub section_by : (List ℕ → Part Payload) → ℕ → ℕ → Part Pay
 section_by after place next = part.first_byte (λ id. part.choose (id == 0) (part.sized (part.◌>>=◌ grammar_name after))
     (grammar.placed_section place next id (order_of id)))
 
-abbrev pub section_of : {g : List ℕ → Part Payload} → ((n : List ℕ) → Contents (g n)) → (place next : ℕ) → Row (section_by g place next)
+abbrev pub section_of : {g : List ℕ → Part Payload} → ((n : List ℕ) → RestRow (g n)) → (place next : ℕ) → Row (section_by g place next)
 section_of after place next = first_byte (λ id. choose (id == 0) (sized (fill_after name after)) (placed_section place next id (order_of id)))
 
 unfoldable pub section : (place next : ℕ) → Row (section_by custom_taken place next)

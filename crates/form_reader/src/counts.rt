@@ -2,7 +2,7 @@
 
 ghost use Rattle.std.specs.Prelude.{◌≡◌, ◌∷◌, [], map};
 ghost use Rattle.wasm_spec.specs.Module.{Types, Imports, HasFewEntries};
-ghost use Rattle.form_reader.specs.Counted.{counts_of, HasRoom, CountsMore};
+ghost use Rattle.form_reader.specs.Counted.{counts_of, SizesFit, CountsMore};
 ghost use Rattle.form_reader.specs.Views.{module_of, payload_of, import_of, group_of};
 
 use crate::form::{Counts, Form, Import, Payload};
@@ -33,7 +33,7 @@ impl Form<'_> {
 }
 
 fn add_section(counts: &mut Counts, payload: &Payload<'_>)
-    requires { HasRoom counts.old (payload_of payload.now ∷ []) }
+    requires { SizesFit counts.old (payload_of payload.now ∷ []) }
     ensures { CountsMore counts.old counts.new (payload_of payload.now ∷ []) }
 {
     match payload {
@@ -50,7 +50,7 @@ fn add_section(counts: &mut Counts, payload: &Payload<'_>)
 
 /// Adds the members of groups of types.
 fn add_groups(counts: &mut Counts, groups: &[RecGroup])
-    requires { HasRoom counts.old (Types (map group_of groups.now) ∷ []) }
+    requires { SizesFit counts.old (Types (map group_of groups.now) ∷ []) }
     ensures { CountsMore counts.old counts.new (Types (map group_of groups.now) ∷ []) }
 {
     for group in groups {
@@ -59,7 +59,7 @@ fn add_groups(counts: &mut Counts, groups: &[RecGroup])
 }
 
 fn add_group(counts: &mut Counts, group: &RecGroup)
-    requires { HasRoom counts.old (Types (group_of group.now ∷ []) ∷ []) }
+    requires { SizesFit counts.old (Types (group_of group.now ∷ []) ∷ []) }
     ensures { CountsMore counts.old counts.new (Types (group_of group.now ∷ []) ∷ []) }
 {
     counts.types += group.types.len() as u32;
@@ -67,7 +67,7 @@ fn add_group(counts: &mut Counts, group: &RecGroup)
 
 /// Adds what is imported, each to the space of its kind.
 fn add_imports(counts: &mut Counts, imports: &[Import<'_>])
-    requires { HasRoom counts.old (Imports (map import_of imports.now) ∷ []) }
+    requires { SizesFit counts.old (Imports (map import_of imports.now) ∷ []) }
     ensures { CountsMore counts.old counts.new (Imports (map import_of imports.now) ∷ []) }
 {
     for import in imports {
@@ -76,7 +76,7 @@ fn add_imports(counts: &mut Counts, imports: &[Import<'_>])
 }
 
 fn add_import(counts: &mut Counts, import: &Import<'_>)
-    requires { HasRoom counts.old (Imports (import_of import.now ∷ []) ∷ []) }
+    requires { SizesFit counts.old (Imports (import_of import.now ∷ []) ∷ []) }
     ensures { CountsMore counts.old counts.new (Imports (import_of import.now ∷ []) ∷ []) }
 {
     match import.ty {

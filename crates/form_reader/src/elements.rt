@@ -12,7 +12,7 @@ use crate::input::InputEntries;
 use crate::input_vectors::{InputEntry, InputVector};
 use crate::offsets::flagged_constant;
 use crate::type_indices::DefinedFunction;
-use crate::vectors::Index;
+use crate::vectors::IndexEntry;
 use crate::{ConstExpr, Element, ElementItems, ElementKind, Payload};
 use std::alloc::Global;
 use wasm_spec::{AbstractHeapType, HeapType, RefType};
@@ -178,10 +178,10 @@ impl<'d> Cursor<'d> {
             self.old.rest.now self.new.rest.now result }
     {
         if let ElementItems::Functions(indices) = &mut element.items {
-            self.vector_into::<Index>(alloc, indices)?;
+            self.vector_into::<IndexEntry>(alloc, indices)?;
             return Ok(());
         }
-        let indices = self.vector::<Index>(alloc)?;
+        let indices = self.vector::<IndexEntry>(alloc)?;
         element.items = ElementItems::Functions(indices);
         Ok(())
     }

@@ -27,9 +27,9 @@ pub trait Entry<'d> {
 }
 
 /// An index.
-pub struct Index;
+pub struct IndexEntry;
 
-impl<'d> Entry<'d> for Index {
+impl<'d> Entry<'d> for IndexEntry {
     type Value = u32;
 
     ghost Seen = { ℕ };

@@ -4,7 +4,7 @@ use Rattle.std.specs.List.{list_all}
 use Rattle.std.specs.Option.{option_map, option_and_then}
 use Rattle.wasm_spec.specs.declared.types.UnpackedIndex.{UnpackedIndex}
 use Rattle.wasm_spec.specs.declared.types.UnpackedIndex.TheVariants.{Module}
-use Rattle.wasm_spec.specs.TypeData.{Value, I32, I64, F32, F64, V128, Ref, Storage, I8, I16, Val, Field, Func, Array, Struct, Cont, Exn, map_value, map_storage, map_field}
+use Rattle.wasm_spec.specs.TypeData.{ValueType, I32, I64, F32, F64, V128, Ref, Storage, I8, I16, Val, Field, Func, Array, Struct, Cont, Exn, map_value, map_storage, map_field}
 use Rattle.rule_spec.specs.declared.classes.Class.{Class}
 use Rattle.rule_spec.specs.Typing.{class_of, storage_class, field_class, value_has_default, storage_has_default, has_default, struct_fields}
 use Rattle.form_rules.specs.Unnamed.{unnamed}
@@ -16,7 +16,7 @@ use Rattle.form_rules.specs.Defaults.{defaults_of}
 abbrev no_name : UnpackedIndex → UnpackedIndex
 no_name index = Module 0
 
-class-alone : (v : Value UnpackedIndex) → class_of (map_value no_name v) ≡ class_of v
+class-alone : (v : ValueType UnpackedIndex) → class_of (map_value no_name v) ≡ class_of v
 class-alone I32 = refl
 class-alone I64 = refl
 class-alone F32 = refl
@@ -24,7 +24,7 @@ class-alone F64 = refl
 class-alone V128 = refl
 class-alone (Ref r) = refl
 
-default-alone : (v : Value UnpackedIndex) → value_has_default (map_value no_name v) ≡ value_has_default v
+default-alone : (v : ValueType UnpackedIndex) → value_has_default (map_value no_name v) ≡ value_has_default v
 default-alone I32 = refl
 default-alone I64 = refl
 default-alone F32 = refl

@@ -4,14 +4,14 @@ use Rattle.std.specs.List.{flat_map}
 use Rattle.wasm_spec.specs.Module as plain
 use Rattle.form_reader.specs.Views.{payload_of, module_of}
 use Rattle.form_reader.specs.Input.{input_payload_of, customs_in, sections_of_part, input_module_of}
-use Rattle.form_rules.specs.declared.source.Source.{Source}
-use Rattle.form_rules.specs.declared.source.Source.TheVariants as sources
+use Rattle.form_rules.specs.declared.source.ModuleSource.{ModuleSource}
+use Rattle.form_rules.specs.declared.source.ModuleSource.TheVariants as sources
 use Rattle.form_rules.specs.declared.source.Section.{Section}
 use Rattle.form_rules.specs.declared.source.Section.TheVariants as section
 use Rattle.form_rules.specs.declared.source.Sections.{Sections}
 use Rattle.form_rules.specs.declared.source.Sections.TheVariants as sections
 
-abbrev pub source_module : Source → plain.Module
+abbrev pub source_module : ModuleSource → plain.Module
 source_module (sources.Form form) = module_of form.now
 source_module (sources.Input form) = input_module_of form.now
 

@@ -8,7 +8,7 @@ ghost use Rattle.rule_spec.specs.Rules.{CountsAgree, locals};
 ghost use Rattle.form_rules.specs.Source.{source_module, sections_in};
 ghost use Rattle.form_rules.specs.Views.{lists_of};
 
-use crate::{Lists, Section, Source, count_entries, entries_of, sections_of};
+use crate::{Lists, ModuleSource, Section, count_entries, entries_of, sections_of};
 use form_reader::{FunctionBody, Payload};
 use wasm_spec::ValType;
 
@@ -33,7 +33,7 @@ pub fn bodies_hold(lists: &Lists<'_, '_>) -> bool
 }
 
 /// Whether each declared number of data segments is their number.
-fn data_counts_hold(source: Source<'_, '_>, count: usize) -> bool
+fn data_counts_hold(source: ModuleSource<'_, '_>, count: usize) -> bool
     ensures { IsTrue result ↔ All (λ stated. stated ≡ count) (flat_map data_counts_of_section (source_module source.entry)) }
 {
     for section in sections_of(source) {

@@ -9,7 +9,7 @@ ghost use Rattle.form_types.specs.Numbered.{AreNumbered};
 ghost use Rattle.form_rules.specs.Source.{source_module};
 ghost use Rattle.form_rules.specs.Unnamed.{unnamed};
 
-use crate::source::Source;
+use crate::source::ModuleSource;
 use form_reader::CompositeInnerType;
 use form_types::Types;
 use std::marker::Model;
@@ -17,7 +17,7 @@ use std::marker::Model;
 /// The declared types of a module that was read, or none.
 #[derive(Drop)]
 pub struct DeclaredTypes<'f, 'd> {
-    numbered: Option<(&'f Types, Source<'f, 'd>)>,
+    numbered: Option<(&'f Types, ModuleSource<'f, 'd>)>,
 }
 
 impl<'f, 'd> Model for DeclaredTypes<'f, 'd> {
@@ -38,7 +38,7 @@ impl<'f, 'd> Model for DeclaredTypes<'f, 'd> {
 impl<'f, 'd> DeclaredTypes<'f, 'd> {
     /// The types that a module declares, in order. `types` has their ids, as `Types::build` gives
     /// them for the same module.
-    pub fn new(types: &'f Types, source: Source<'f, 'd>) -> DeclaredTypes<'f, 'd>
+    pub fn new(types: &'f Types, source: ModuleSource<'f, 'd>) -> DeclaredTypes<'f, 'd>
         requires { AreNumbered (source_module source) types.now }
         ensures { result ≡ declared_groups 0 (groups (source_module source.entry)) }
     {

@@ -13,7 +13,7 @@ ghost use Rattle.form_rules.specs.Gathered.{AddsImports, AddsDefined};
 use crate::declared::DeclaredTypes;
 use crate::lists::{Lists, Spaces};
 use crate::sections::entries_of;
-use crate::source::{Section, Source, sections_of};
+use crate::source::{ModuleSource, Section, sections_of};
 use form_reader::{
     DefinedFunction, DefinedGlobal, DefinedTag, GlobalDef, Import, InputEntries, InputVector,
     Payload, TableDef,
@@ -27,7 +27,7 @@ use wasm_spec::{GlobalType, TableType, TypeRef};
 /// `AllocError` where the lists find no memory.
 pub fn gather_lists<'f, 'd>(
     alloc: Global,
-    source: Source<'f, 'd>,
+    source: ModuleSource<'f, 'd>,
     types: DeclaredTypes<'f, 'd>,
 ) -> Result<Lists<'f, 'd>, AllocError>
     requires { types ≡ declared_groups 0 (groups (source_module source)) }
@@ -54,7 +54,7 @@ pub fn gather_lists<'f, 'd>(
     })
 }
 
-fn add_all_imports(spaces: &mut Spaces, source: Source<'_, '_>) -> Result<(), AllocError>
+fn add_all_imports(spaces: &mut Spaces, source: ModuleSource<'_, '_>) -> Result<(), AllocError>
     ensures { OnOk result (AddsImports spaces.old spaces.new (imports (source_module source.entry))) }
 {
     for import in entries_of::<Import<'_>>(source) {
@@ -79,7 +79,7 @@ fn add_import(spaces: &mut Spaces, import: &Import<'_>) -> Result<(), AllocError
 fn add_all_defined(
     alloc: Global,
     spaces: &mut Spaces,
-    source: Source<'_, '_>,
+    source: ModuleSource<'_, '_>,
 ) -> Result<(), AllocError>
     ensures { OnOk result (AddsDefined spaces.old spaces.new (source_module source.entry)) }
 {

@@ -8,7 +8,7 @@ ghost use Rattle.form_rules.specs.Unnamed.{unnamed};
 ghost use Rattle.form_rules.specs.Views.{lists_of};
 
 use crate::declared::DeclaredTypes;
-use crate::source::Source;
+use crate::source::ModuleSource;
 use form_reader::CompositeInnerType;
 use wasm_spec::{GlobalType, MemoryType, TableType};
 
@@ -29,7 +29,7 @@ pub struct Spaces {
 #[derive(Drop)]
 pub struct Lists<'f, 'd> {
     /// The entries of the sections stay where they are.
-    pub source: Source<'f, 'd>,
+    pub source: ModuleSource<'f, 'd>,
     pub types: DeclaredTypes<'f, 'd>,
     pub spaces: Spaces,
     pub imported_functions: usize,
@@ -39,7 +39,7 @@ pub struct Lists<'f, 'd> {
 impl<'f, 'd> Lists<'f, 'd> {
     /// The same lists without the types; `source` is the module again, which may be borrowed for
     /// longer than the types are.
-    pub fn without_types<'s>(self, source: Source<'s, 'd>) -> Lists<'s, 'd>
+    pub fn without_types<'s>(self, source: ModuleSource<'s, 'd>) -> Lists<'s, 'd>
         requires { source ≡ self.source }
         ensures lists { lists_of result ≡ record (lists_of self.entry) { types = [] } }
         ensures of_source { result.source ≡ source.entry }

@@ -11,7 +11,7 @@ ghost use Rattle.rule_spec.specs.Rules.{AreDistinct};
 ghost use Rattle.form_rules.specs.Source.{source_module};
 ghost use Rattle.form_rules.specs.Names.{imported_names, exported_names};
 
-use crate::{Source, count_entries, entries_of};
+use crate::{ModuleSource, count_entries, entries_of};
 use entity_map::{NameDigest, OutOfMemory, StringPool};
 use form_reader::{Export, Import};
 use std::alloc::Global;
@@ -23,7 +23,7 @@ const FEW_MODULES: usize = 64;
 /// of imports.
 pub(crate) fn pool_of_exports(
     alloc: Global,
-    source: Source<'_, '_>,
+    source: ModuleSource<'_, '_>,
 ) -> Result<Option<StringPool>, OutOfMemory>
     ensures pooled { IfOk result (λ pool. IfSome pool (λ texts.
         texts ≡ exported_names (flat_map exports_of_section (source_module source.entry)))) }
@@ -52,7 +52,7 @@ fn insert_new(pool: &mut StringPool, text: &str) -> Result<bool, OutOfMemory>
 }
 
 /// An empty pool, with capacity for the name of each import and of each export.
-fn empty_pool(alloc: Global, source: Source<'_, '_>) -> Result<StringPool, OutOfMemory>
+fn empty_pool(alloc: Global, source: ModuleSource<'_, '_>) -> Result<StringPool, OutOfMemory>
     ensures { IfOk result (λ pool. pool ≡ []) }
 {
     let mut pool = StringPool::seeded(alloc, seed_of_names(source));
@@ -63,7 +63,7 @@ fn empty_pool(alloc: Global, source: Source<'_, '_>) -> Result<StringPool, OutOf
 }
 
 /// A digest of all names, from which hashes begin: names that are chosen to collide change it as well.
-fn seed_of_names(source: Source<'_, '_>) -> u64
+fn seed_of_names(source: ModuleSource<'_, '_>) -> u64
     ensures { result ≡ sip.finish (fold sip.write sip.initial
         (imported_names (source_module source.entry) ++ exported_names (flat_map exports_of_section (source_module source.entry)))) }
 {
@@ -74,7 +74,7 @@ fn seed_of_names(source: Source<'_, '_>) -> u64
 }
 
 /// Adds the names of imports to a digest.
-fn add_import_names(digest: &mut NameDigest, source: Source<'_, '_>)
+fn add_import_names(digest: &mut NameDigest, source: ModuleSource<'_, '_>)
     ensures { digest.new ≡ fold sip.write digest.old (imported_names (source_module source.entry)) }
 {
     for import in entries_of::<Import<'_>>(source) {
@@ -84,7 +84,7 @@ fn add_import_names(digest: &mut NameDigest, source: Source<'_, '_>)
 }
 
 /// Adds the names of exports to a digest.
-fn add_export_names(digest: &mut NameDigest, source: Source<'_, '_>)
+fn add_export_names(digest: &mut NameDigest, source: ModuleSource<'_, '_>)
     ensures { digest.new ≡ fold sip.write digest.old (exported_names (flat_map exports_of_section (source_module source.entry))) }
 {
     for export in entries_of::<Export<'_>>(source) {

@@ -25,7 +25,7 @@ use crate::start::starts_hold;
 use crate::tables::initialisers_hold;
 use crate::type_rules::types_are_named;
 use crate::{
-    DeclaredTypes, KindsTyped, Lists, Source, Typing, expressions_hold, gather_lists,
+    DeclaredTypes, KindsTyped, Lists, ModuleSource, Typing, expressions_hold, gather_lists,
     struct_defaults,
 };
 use entity_map::StringPool;
@@ -74,7 +74,7 @@ pub fn check(alloc: Global, form: &Form<'_>) -> Result<(), CheckError>
     let numbering = numbering_of_form(alloc, form)?;
     match numbering.into_types(&Validator::new(0)) {
         Some(types) => {
-            checked_lists(alloc, Source::Form(form), &types)?;
+            checked_lists(alloc, ModuleSource::Form(form), &types)?;
             Ok(())
         }
         None => Err(CheckError::Invalid(Rule::L1)),
@@ -88,7 +88,7 @@ pub fn check(alloc: Global, form: &Form<'_>) -> Result<(), CheckError>
 /// Those of `check`.
 pub fn checked_lists<'f, 'd>(
     alloc: Global,
-    source: Source<'f, 'd>,
+    source: ModuleSource<'f, 'd>,
     types: &'f Types,
 ) -> Result<(Lists<'f, 'd>, StringPool), CheckError>
     requires numbered { AreNumbered (source_module source) types.now }

@@ -10,11 +10,11 @@ ghost use Rattle.form_reader.specs.Input.{input_payload_of};
 ghost use Rattle.form_rules.specs.Source.{source_module, sections_in, sections_left};
 ghost use Rattle.form_rules.specs.Sections.{entries_left, none_in_input};
 
-use crate::source::{Section, Sections, Source, sections_of};
+use crate::source::{ModuleSource, Section, Sections, sections_of};
 use form_reader::{Export, FunctionBody, Import, Payload, TableDef};
 
 /// An entry that sections of one kind list, and that never stays in the input.
-pub trait Entry<'d>: Sized {
+pub trait FormEntry<'d>: Sized {
     ghost Seen: { Type 0 };
 
     ghost seen: { Self → Seen };
@@ -33,7 +33,7 @@ pub trait Entry<'d>: Sized {
 /// The entries of a section. Sections that stay in the input have none, and neither have custom
 /// sections.
 #[inline]
-pub(crate) fn entries_in<'f, 'd, T: Entry<'d>>(section: Section<'f, 'd>) -> &'f [T]
+pub(crate) fn entries_in<'f, 'd, T: FormEntry<'d>>(section: Section<'f, 'd>) -> &'f [T]
     ensures { map T.seen result.now ≡ flat_map T.of_section (sections_in section.entry) }
 {
     match section {
@@ -44,7 +44,7 @@ pub(crate) fn entries_in<'f, 'd, T: Entry<'d>>(section: Section<'f, 'd>) -> &'f 
 }
 
 /// How many entries of one kind the sections list, or `usize::MAX` where there are more.
-pub fn count_entries<'d, T: Entry<'d>>(source: Source<'_, 'd>) -> usize
+pub fn count_entries<'d, T: FormEntry<'d>>(source: ModuleSource<'_, 'd>) -> usize
     ensures { result ≡ min (length (flat_map T.of_section (source_module source.entry))) usize.MAX }
 {
     let mut count: usize = 0;
@@ -64,7 +64,7 @@ pub struct Entries<'f, 'd, T> {
 /// The entries of one kind, through all sections of a module.
 #[inline]
 #[tactic(auto, unfolding(crate::specs::Sections::entries_left))]
-pub fn entries_of<'f, 'd, T: Entry<'d>>(source: Source<'f, 'd>) -> Entries<'f, 'd, T>
+pub fn entries_of<'f, 'd, T: FormEntry<'d>>(source: ModuleSource<'f, 'd>) -> Entries<'f, 'd, T>
     ensures { entries_left T.seen T.of_section result ≡ flat_map T.of_section (source_module source.entry) }
 {
     Entries {
@@ -73,7 +73,7 @@ pub fn entries_of<'f, 'd, T: Entry<'d>>(source: Source<'f, 'd>) -> Entries<'f, '
     }
 }
 
-impl<'f, 'd, T: Entry<'d>> Iterator for Entries<'f, 'd, T> {
+impl<'f, 'd, T: FormEntry<'d>> Iterator for Entries<'f, 'd, T> {
     type Item = &'f T;
 
     ghost next_gives = { YieldsFirstBy (λ x. T.seen x.now) (entries_left T.seen T.of_section) };
@@ -94,7 +94,7 @@ impl<'f, 'd, T: Entry<'d>> Iterator for Entries<'f, 'd, T> {
     }
 }
 
-impl<'d> Entry<'d> for Import<'d> {
+impl<'d> FormEntry<'d> for Import<'d> {
     ghost Seen = { plain.Import };
 
     ghost seen = { import_of };
@@ -114,7 +114,7 @@ impl<'d> Entry<'d> for Import<'d> {
     ghost no_customs = { λ name bytes. refl };
 }
 
-impl<'d> Entry<'d> for TableDef {
+impl<'d> FormEntry<'d> for TableDef {
     ghost Seen = { plain.TableDef };
 
     ghost seen = { table_of };
@@ -134,7 +134,7 @@ impl<'d> Entry<'d> for TableDef {
     ghost no_customs = { λ name bytes. refl };
 }
 
-impl<'d> Entry<'d> for Export<'d> {
+impl<'d> FormEntry<'d> for Export<'d> {
     ghost Seen = { plain.Export };
 
     ghost seen = { export_of };
@@ -154,7 +154,7 @@ impl<'d> Entry<'d> for Export<'d> {
     ghost no_customs = { λ name bytes. refl };
 }
 
-impl<'d> Entry<'d> for FunctionBody<'d> {
+impl<'d> FormEntry<'d> for FunctionBody<'d> {
     ghost Seen = { plain.Body };
 
     ghost seen = { body_of };

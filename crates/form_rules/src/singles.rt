@@ -5,7 +5,7 @@ ghost use Rattle.std.specs.Iterator.{YieldsFirstBy, item_count};
 ghost use Rattle.form_rules.specs.Source.{source_module};
 ghost use Rattle.form_rules.specs.Singles.{single_of, singles_left};
 
-use crate::source::{Section, Sections, Source, sections_of};
+use crate::source::{ModuleSource, Section, Sections, sections_of};
 use form_reader::{InputCustoms, InputEntries, Payload};
 
 /// One section.
@@ -28,7 +28,7 @@ pub struct Singles<'f, 'd> {
 
 /// All sections of a module, one by one.
 #[tactic(auto, unfolding(crate::specs::Singles::singles_left))]
-pub fn singles_of<'f, 'd>(source: Source<'f, 'd>) -> Singles<'f, 'd>
+pub fn singles_of<'f, 'd>(source: ModuleSource<'f, 'd>) -> Singles<'f, 'd>
     ensures { singles_left result ≡ source_module source.entry }
 {
     Singles {

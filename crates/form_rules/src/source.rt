@@ -9,7 +9,7 @@ use form_reader::{Form, InputCustoms, InputEntries, InputForm, InputPart, InputS
 
 /// A module that was read: as a form, or with sections that stay in the input.
 #[derive(Clone, Copy)]
-pub enum Source<'f, 'd> {
+pub enum ModuleSource<'f, 'd> {
     Form(&'f Form<'d>),
     Input(&'f InputForm<'d>),
 }
@@ -35,12 +35,12 @@ pub enum Sections<'f, 'd> {
 /// All sections of a module.
 #[inline]
 #[tactic(auto, unfolding(crate::specs::Source::sections_left))]
-pub fn sections_of<'f, 'd>(source: Source<'f, 'd>) -> Sections<'f, 'd>
+pub fn sections_of<'f, 'd>(source: ModuleSource<'f, 'd>) -> Sections<'f, 'd>
     ensures { sections_left result ≡ source_module source.entry }
 {
     match source {
-        Source::Form(form) => Sections::Form(form.payloads.as_slice()),
-        Source::Input(form) => Sections::Input(form.parts.as_slice()),
+        ModuleSource::Form(form) => Sections::Form(form.payloads.as_slice()),
+        ModuleSource::Input(form) => Sections::Input(form.parts.as_slice()),
     }
 }
 

@@ -6,7 +6,7 @@ ghost use Rattle.form_reader.specs.Input.{vector_in, Takes};
 ghost use Rattle.form_rules.specs.Source.{source_module, sections_in};
 ghost use Rattle.form_rules.specs.Walk.{walk_left, left_here, standing};
 
-use crate::source::{Section, Sections, Source, sections_of};
+use crate::source::{ModuleSource, Section, Sections, sections_of};
 use form_reader::{InputEntry, InputVector};
 use std::alloc::{AllocError, Global};
 
@@ -29,7 +29,7 @@ pub struct Walk<'f, 'd, E> {
 #[tactic(auto, unfolding(crate::specs::Walk::walk_left), using(form_reader::proofs::Listed::none_there))]
 pub fn walk_of<'f, 'd, E: InputEntry<'d, Value = E>>(
     alloc: Global,
-    source: Source<'f, 'd>,
+    source: ModuleSource<'f, 'd>,
 ) -> Walk<'f, 'd, E>
     ensures { walk_left E.form E.view E.of_section result ≡ flat_map E.of_section (source_module source.entry) }
 {

@@ -18,29 +18,29 @@ use Rattle.form_types.specs.EarlierTypes.{ids_of}
 use Rattle.form_types.specs.Placed.{place_of, placed, id_at, named_index}
 use Rattle.form_types.specs.Keys.{group_key, key_of}
 use Rattle.form_types.specs.Finding.{first_of}
-use Rattle.form_types.specs.Distinct.{IsListed}
+use Rattle.form_types.specs.Distinct.{KeepsGroups}
 use Rattle.form_types.specs.Adding.{HasFewIds, AddsMet, AddsNew, AddsBy, AddsGroup}
-use Rattle.form_types.specs.Taken.{Canonical, NearIn, TellsAt, IsNumbered, places, Built}
+use Rattle.form_types.specs.Taken.{Canonical, NearIn, TellsAt, IsNumbered, places, FirstAreNumbered}
 use Rattle.form_types.proofs.Steps.{found-low, numbered-empty, numbered-old, numbered-new}
 
 -- some groups are numbered as they are listed
 builds : (gs : List (Group ℕ ℕ)) (done : List NamedGroup) (n : Numbering) (keys : List Canonical) (groups : List NamedGroup) → places done ≡ gs
     → IsNumbered gs (slice_index (ids_of n.declared.items)) keys groups (first_of n.first_ids)
-    → length (ids_of n.declared.items) ≡ size gs → IsListed n.distinct groups → Built done n
+    → length (ids_of n.declared.items) ≡ size gs → KeepsGroups n.distinct groups → FirstAreNumbered done n
 builds gs done n keys groups are st counted listed = record {
   keys = keys;
   numbered = coe 0 1 (t. IsNumbered (sym are t) (slice_index (ids_of n.declared.items)) keys (sym listed.groups_are t) (first_of n.first_ids)) st;
   counted = counted ∙ ap size (sym are);
-  listed = subst (IsListed n.distinct) (sym listed.groups_are) listed;
+  listed = subst (KeepsGroups n.distinct) (sym listed.groups_are) listed;
 }
 
 -- no group is numbered
 pub record HasNone (n : Numbering) : Type 0 where
   pub ids : ids_of n.declared.items ≡ []
-  pub listed : IsListed n.distinct []
+  pub listed : KeepsGroups n.distinct []
   pub met : (q : CanonicalGroup) → first_of n.first_ids q ≡ None
 
-pub built-none : (n : Numbering) → HasNone n → Built [] n
+pub built-none : (n : Numbering) → HasNone n → FirstAreNumbered [] n
 built-none n none = builds [] [] n [] [] refl (record {
   few = omega arith;
   listed = record { long = refl; are = λ k lt. absurd (omega arith); apart = λ i j d lt in'. absurd (omega arith); references = tt };
@@ -53,7 +53,7 @@ places-more : (done : List NamedGroup) (g : NamedGroup) → places (done ++ g �
 places-more done g = map-append placed done (g ∷ [])
 
 -- a group with no types changes nothing
-pub built-empty : (done : List NamedGroup) (n : Numbering) (g : NamedGroup) → length g ≡ 0 → Built done n → Built (done ++ g ∷ []) n
+pub built-empty : (done : List NamedGroup) (n : Numbering) (g : NamedGroup) → length g ≡ 0 → FirstAreNumbered done n → FirstAreNumbered (done ++ g ∷ []) n
 built-empty done n g none b =
     let long : length (placed g) ≡ 0 = length-map g _ ∙ none in
     builds (places done ++ placed g ∷ []) (done ++ g ∷ []) n b.keys (map group_of n.distinct.groups.items) (places-more done g)
@@ -63,7 +63,7 @@ built-empty done n g none b =
 
 -- ---- a group with types
 
-module _ (done : List NamedGroup) (n n' : Numbering) (g : NamedGroup) (b : Built done n) (some : 0 < length g)
+module _ (done : List NamedGroup) (n n' : Numbering) (g : NamedGroup) (b : FirstAreNumbered done n) (some : 0 < length g)
     (near : NearIn (record { start = size (places done); members = placed g })) (adds : AddsGroup n n' g) where
   abbrev gs : List (Group ℕ ℕ)
   gs = places done
@@ -98,14 +98,14 @@ module _ (done : List NamedGroup) (n n' : Numbering) (g : NamedGroup) (b : Built
         let sum = length-append ids (range_with_len first (length g)) in
         omega (arith, ap length row, sum, length-range_with_len first (length g), b.counted, size-more gs (placed g), long)
 
-  built-met : (first : ℕ) → first_of n.first_ids adds.key ≡ Some first → AddsMet n n' g first → Built (done ++ g ∷ []) n'
+  built-met : (first : ℕ) → first_of n.first_ids adds.key ≡ Some first → AddsMet n n' g first → FirstAreNumbered (done ++ g ∷ []) n'
   built-met first found a =
       builds (gs ++ placed g ∷ []) (done ++ g ∷ []) n' b.keys groups (places-more done g)
       (numbered-old gs (slice_index ids) b.keys groups (first_of n.first_ids) b.numbered (placed g) (slice_index ids') (agree first a.ids)
       adds.key is_key near first found (fresh first a.ids) (first_of n'.first_ids) a.met)
       (counts first a.ids) a.listed
 
-  built-new : first_of n.first_ids adds.key ≡ None → AddsNew n n' g adds.key → Built (done ++ g ∷ []) n'
+  built-new : first_of n.first_ids adds.key ≡ None → AddsNew n n' g adds.key → FirstAreNumbered (done ++ g ∷ []) n'
   built-new none a =
       let next = b.listed.next_is in
       let total = length (types_by_id groups) in
@@ -117,12 +117,12 @@ module _ (done : List NamedGroup) (n n' : Numbering) (g : NamedGroup) (b : Built
       (λ q. a.met q ∙ ap (λ f. cond (group.ghosts.eq adds.key q) (Some f) (first_of n.first_ids q)) next))
       (counts total row) a.listed
 
-  pub built-more : Built (done ++ g ∷ []) n'
+  pub built-more : FirstAreNumbered (done ++ g ∷ []) n'
   built-more = by (first_of n.first_ids adds.key) refl adds.adds where
-    by : (o : Option ℕ) → first_of n.first_ids adds.key ≡ o → AddsBy n n' g adds.key o → Built (done ++ g ∷ []) n'
+    by : (o : Option ℕ) → first_of n.first_ids adds.key ≡ o → AddsBy n n' g adds.key o → FirstAreNumbered (done ++ g ∷ []) n'
     by (Some first) found a = built-met first found a
     by None none a = built-new none a
 
 -- first ids are those of groups
-pub few-ids : (done : List NamedGroup) (n : Numbering) → Built done n → size (places done) < 2 ^ 30 → HasFewIds n.first_ids
+pub few-ids : (done : List NamedGroup) (n : Numbering) → FirstAreNumbered done n → size (places done) < 2 ^ 30 → HasFewIds n.first_ids
 few-ids done n b few = λ key first is. omega (arith, found-low b.numbered key first is, b.numbered.few, few)

@@ -5,7 +5,7 @@ use Rattle.std.proofs.lemmas.Bool.{le-ltb}
 use Rattle.std.specs.Option.{option_map}
 use Rattle.std.specs.List.{flat_map}
 use Rattle.std.proofs.lemmas.List.Folds.{flat_map-map}
-use Rattle.wasm_spec.specs.TypeData.{Heap, Concrete, Abstract, Value, I32, I64, F32, F64, V128, Ref, Storage, I8, I16, Val, Field, Function, Composite, Func, Array, Struct, Cont, Exn, SubType, Group, map_heap, map_value, map_storage, map_field, map_composite, map_sub_type, map_group}
+use Rattle.wasm_spec.specs.TypeData.{Heap, Concrete, Abstract, ValueType, I32, I64, F32, F64, V128, Ref, Storage, I8, I16, Val, Field, Function, Composite, Func, Array, Struct, Cont, Exn, SubType, Group, map_heap, map_value, map_storage, map_field, map_composite, map_sub_type, map_group}
 use Rattle.type_spec.specs.ListLaws.{map-twice}
 use Rattle.type_spec.specs.Same.{Gap}
 use Rattle.type_spec.specs.Tests.{byte_heap, byte-back}
@@ -16,7 +16,7 @@ module _ {H H' : Type 0} (h : H → H') where
   heap-mapped : (x : Heap H) → heap_code (map_heap h x) ≡ heap_code x
   heap-mapped x = grind arith
 
-  value-mapped : (x : Value H) → value_code (map_value h x) ≡ value_code x
+  value-mapped : (x : ValueType H) → value_code (map_value h x) ≡ value_code x
   value-mapped x = grind (arith, heap-mapped)
 
   storage-mapped : (x : Storage H) → storage_code (map_storage h x) ≡ storage_code x
@@ -25,7 +25,7 @@ module _ {H H' : Type 0} (h : H → H') where
   field-mapped : (x : Field H) → field_codes (map_field h x) ≡ field_codes x
   field-mapped x = ap (λ n. n ∷ flag x.mutable ∷ []) (storage-mapped x.element)
 
-  values-mapped : (xs : List (Value H)) → map value_code (map (map_value h) xs) ≡ map value_code xs
+  values-mapped : (xs : List (ValueType H)) → map value_code (map (map_value h) xs) ≡ map value_code xs
   values-mapped xs = map-twice (map_value h) value_code value_code value-mapped xs
 
   fields-mapped : (xs : List (Field H)) → flat_map field_codes (map (map_field h) xs) ≡ flat_map field_codes xs
@@ -115,13 +115,13 @@ storage-told x y same = let one : Some x ≡ Some y = sym (storage-back x) ∙ a
 not-end : (x : Storage Gap) → storage_code x ≡ 0x0B → ⊥
 not-end x same = let one : Some x ≡ None = sym (storage-back x) ∙ ap decode same ∙ no_end in cc
 
-value-told : (x y : Value Gap) → value_code x ≡ value_code y → x ≡ y
+value-told : (x y : ValueType Gap) → value_code x ≡ value_code y → x ≡ y
 value-told x y same = let one : Val x ≡ Val y = storage-told (Val x) (Val y) same in cc
 
 first-of : (a b : ℕ) (r s : List ℕ) → a ∷ r ≡ b ∷ s → (a ≡ b) × (r ≡ s)
 first-of a b r s same = grind arith
 
-values-told : (xs ys : List (Value Gap)) (r s : List ℕ) → ended (map value_code xs) ++ r ≡ ended (map value_code ys) ++ s → (xs ≡ ys) × (r ≡ s)
+values-told : (xs ys : List (ValueType Gap)) (r s : List ℕ) → ended (map value_code xs) ++ r ≡ ended (map value_code ys) ++ s → (xs ≡ ys) × (r ≡ s)
 values-told [] [] r s same = (refl, (first-of _ _ r s same).1)
 values-told [] (y ∷ ys) r s same = absurd (not-end (Val y) (sym ((first-of _ _ _ _ same).0)))
 values-told (x ∷ xs) [] r s same = absurd (not-end (Val x) ((first-of _ _ _ _ same).0))

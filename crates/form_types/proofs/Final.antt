@@ -19,18 +19,18 @@ use Rattle.rule_spec.specs.TypeRules.{IsFunction, KindIsBelow, NamesFunctionType
 use Rattle.rule_spec.specs.TypeRules as rule
 use Rattle.form_reader.specs.Views.{group_of}
 use Rattle.form_types.specs.declared.numbering.Numbering.{Numbering}
-use Rattle.form_types.specs.Types.{NamedGroup, TypesData, types_by_id, NamesFunction, CompositeContinues, ContinuesFunction, IsSound}
+use Rattle.form_types.specs.Types.{NamedGroup, TypesData, types_by_id, NamesFunction, CompositeContinues, ContinuesFunction, TypesAreSound}
 use Rattle.form_types.specs.EarlierTypes.{ids_of}
 use Rattle.form_types.specs.Placed.{id_at, named_index}
 use Rattle.form_types.specs.Numbered.{HasItsId, AreNumbered}
-use Rattle.form_types.specs.Taken.{places, Built}
+use Rattle.form_types.specs.Taken.{places, FirstAreNumbered}
 use Rattle.form_types.specs.Below.{NamesBelow}
 use Rattle.form_types.proofs.PartsBelow.{cont_below}
 use Rattle.form_types.proofs.Steps.{below-all, in-row, told-apart, group-renamed}
 use Rattle.form_types.proofs.AtIds.{type-at-id}
 use Rattle.form_types.proofs.Ruled.{declared-types, size-places}
 
-module _ (m : plain.Module) (n : Numbering) (b : Built (plain.groups m) n) (validator : ℕ) where
+module _ (m : plain.Module) (n : Numbering) (b : FirstAreNumbered (plain.groups m) n) (validator : ℕ) where
   abbrev gs : List (Group ℕ ℕ)
   gs = places (plain.groups m)
 
@@ -182,7 +182,7 @@ module _ (m : plain.Module) (n : Numbering) (b : Built (plain.groups m) n) (vali
           (record { indices = here.indices; supertype = here.supertype; continuation = All-head Continues d ds q })
           (both ds (All-tail NamesBelow d ds p) (All-tail Continues d ds q))
 
-  pub sound : All (ContinuesFunction known) known → All HasShortLists (plain.types m) → length (plain.types m) < 2 ^ 30 → IsSound t
+  pub sound : All (ContinuesFunction known) known → All HasShortLists (plain.types m) → length (plain.types m) < 2 ^ 30 → TypesAreSound t
   sound continuing short few = record {
     references = b.numbered.listed.references;
     continuations = continuing;

@@ -6,7 +6,7 @@ use Rattle.std.proofs.lemmas.List.Elements.{All-nil, All-cons, All-head, All-tai
 use Rattle.wasm_spec.specs.declared.types.UnpackedIndex.{UnpackedIndex}
 use Rattle.wasm_spec.specs.declared.types.UnpackedIndex.TheVariants.{Module}
 use Rattle.wasm_spec.specs.declared.types.AbstractHeapType.{AbstractHeapType}
-use Rattle.wasm_spec.specs.TypeData.{Concrete, Abstract, Reference, Value, I32, I64, F32, F64, V128, Ref, I8, I16, Val, Field, Function, Func, Array, Struct, Cont, SubType, value_edges, field_edges, composite_edges, sub_type_edges, group_edges}
+use Rattle.wasm_spec.specs.TypeData.{Concrete, Abstract, Reference, ValueType, I32, I64, F32, F64, V128, Ref, I8, I16, Val, Field, Function, Func, Array, Struct, Cont, SubType, value_edges, field_edges, composite_edges, sub_type_edges, group_edges}
 use Rattle.rule_spec.specs.Lists.{Declared, declared_from}
 use Rattle.rule_spec.specs.TypeRules.{IsBelow, HeapIsBelow, ValueIsBelow, KindIsBelow}
 use Rattle.form_types.proofs.AllOf.{All-joined, All-parts}
@@ -62,7 +62,7 @@ pub i16_below : (bound : ℕ) → StorageIsBelow bound I16
 unfolding StorageIsBelow
 i16_below bound = All-nil (IsBelow bound)
 
-pub val_below : (bound : ℕ) (v : Value UnpackedIndex) → StorageIsBelow bound (Val v) ↔ ValueIsBelow bound v
+pub val_below : (bound : ℕ) (v : ValueType UnpackedIndex) → StorageIsBelow bound (Val v) ↔ ValueIsBelow bound v
 unfolding StorageIsBelow ValueIsBelow
 val_below bound v = (λ below. below, λ below. below)
 
@@ -76,7 +76,7 @@ pub function_below : (bound : ℕ) (f : Function UnpackedIndex)
     → KindIsBelow bound (Func f) ↔ (All (ValueIsBelow bound) f.params × All (ValueIsBelow bound) f.results)
 unfolding KindIsBelow ValueIsBelow
 function_below bound f =
-    let edges : Value UnpackedIndex → List UnpackedIndex = value_edges (λ i. i) in
+    let edges : ValueType UnpackedIndex → List UnpackedIndex = value_edges (λ i. i) in
     let joined = All-joined (IsBelow bound) (flat_map edges f.params) (flat_map edges f.results) in
     let params = All-parts (IsBelow bound) edges f.params in
     let results = All-parts (IsBelow bound) edges f.results in (

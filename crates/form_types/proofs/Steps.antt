@@ -23,7 +23,7 @@ use Rattle.form_types.specs.Ids.{id_of}
 use Rattle.form_types.specs.Types.{NamedGroup, types_by_id, IsIdBelow, NameEarlier}
 use Rattle.form_types.specs.Numbered.{first_id}
 use Rattle.form_types.specs.Keys.{group_key, key_of}
-use Rattle.form_types.specs.Taken.{Canonical, resolved, by_ids, NearIn, AreGiven, AreListed, Stands, TellsAt, IsNumbered}
+use Rattle.form_types.specs.Taken.{Canonical, resolved, by_ids, NearIn, AreGiven, KeysAreListed, HasNumberInGroup, TellsAt, IsNumbered}
 use Rattle.form_types.proofs.InOrder.{given-more}
 use Rattle.form_types.proofs.KeyLaws.{group_key-exact, key-decides}
 
@@ -89,7 +89,7 @@ one-key keys a b apart i j same =
 
 -- ---- what is known of the first groups
 
-first-low : (keys : List Canonical) (groups : List NamedGroup) → AreListed keys groups → (k : ℕ) → k < length keys
+first-low : (keys : List Canonical) (groups : List NamedGroup) → KeysAreListed keys groups → (k : ℕ) → k < length keys
     → first_id groups k + length (get_or groups k []) ≤ length (types_by_id groups)
 first-low keys groups listed k lt = length-flat_map-take (λ (g : NamedGroup). g) groups k [] (omega (arith, lt, listed.long))
 
@@ -176,13 +176,13 @@ module _ (gs : List (Group ℕ ℕ)) (number : ℕ → ℕ) (keys : List Canonic
 
   stands-more : (keys' : List Canonical) (groups' : List NamedGroup) (first : ℕ) → ((k : ℕ) → k < length keys → Stays keys keys' groups groups' k)
       → ((p : ℕ) → p < length m → number' (size gs + p) ≡ first + p) → (0 < length m → Comes keys' groups' first)
-      → (i : ℕ) → i < size more → Stands keys' groups' number' i (home more i)
+      → (i : ℕ) → i < size more → HasNumberInGroup keys' groups' number' i (home more i)
   stands-more keys' groups' first stays fresh comes i h =
       elim (cases_lt i (size gs)) [
         | inl old ↦
             let s = st.stands i old in
             let t = stays s.at s.below in
-            subst (Stands keys' groups' number' i) (sym (home-before gs m i old)) (record {
+            subst (HasNumberInGroup keys' groups' number' i) (sym (home-before gs m i old)) (record {
               at = s.at;
               below = t.below;
               key = t.key ∙ s.key
@@ -194,7 +194,7 @@ module _ (gs : List (Group ℕ ℕ)) (number : ℕ → ℕ) (keys : List Canonic
             let inside : i < size gs + length m = omega (arith, h, size-more gs m) in
             let c = comes (omega (arith, inside, new)) in
             let at : size gs + (i - size gs) ≡ i = omega (arith, new) in
-            subst (Stands keys' groups' number' i) (sym (home-last gs m i new inside)) (record {
+            subst (HasNumberInGroup keys' groups' number' i) (sym (home-last gs m i new inside)) (record {
               at = c.at;
               below = c.below;
               key = c.key ∙ sym (canonical-agrees number number' next-home agree);
@@ -292,7 +292,7 @@ module _ (gs : List (Group ℕ ℕ)) (number : ℕ → ℕ) (keys : List Canonic
       last : (k : ℕ) → k < length keys' → length keys ≤ k → length keys ≡ k
       last k lt ge = omega (arith, lt, ge, length-append keys (canonical number next-home ∷ []))
 
-      listed-more : AreListed keys' groups'
+      listed-more : KeysAreListed keys' groups'
       listed-more = record {
         long = omega (arith, st.listed.long, length-append keys (canonical number next-home ∷ []), length-append groups (g ∷ []));
         are = λ k lt.

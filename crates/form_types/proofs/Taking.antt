@@ -13,7 +13,7 @@ use Rattle.form_types.specs.declared.canonical.CanonicalGroup.{CanonicalGroup}
 use Rattle.form_types.specs.declared.numbering.Numbering.{Numbering}
 use Rattle.form_types.specs.Types.{NamedGroup, types_by_id}
 use Rattle.form_types.specs.Adding.{AddsGroup}
-use Rattle.form_types.specs.Taken.{Built, Took}
+use Rattle.form_types.specs.Taken.{FirstAreNumbered, Took}
 use Rattle.form_types.specs.Below.{NamesBelow}
 use Rattle.form_types.proofs.Steps.{total-more}
 use Rattle.form_types.proofs.Built.{HasNone, built-none, built-empty, built-more}
@@ -65,7 +65,7 @@ module _ (done : List NamedGroup) (n n' : Numbering) (g : NamedGroup) (t : Took 
     never on = let e : true ≡ false = sym on ∙ stopped in absurd cc
 
   took-more : IsTrue n.names_below → IsTrue n'.names_below → All NamesBelow (last_declared done g) → length (types_by_id done) + length g < 2 ^ 30
-      → All HasShortLists g → Built (done ++ g ∷ []) n' → Took n' (done ++ g ∷ [])
+      → All HasShortLists g → FirstAreNumbered (done ++ g ∷ []) n' → Took n' (done ++ g ∷ [])
   took-more on on' last few short built = record {
     below = (λ _. (below-more done g).1 (t.below.0 on, last), λ all. on');
     built = λ _. built;

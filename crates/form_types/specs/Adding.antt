@@ -10,7 +10,7 @@ use Rattle.form_types.specs.Types.{NamedGroup}
 use Rattle.form_types.specs.EarlierTypes.{ids_of}
 use Rattle.form_types.specs.Placed.{placed, named_index}
 use Rattle.form_types.specs.Keys.{key_of}
-use Rattle.form_types.specs.Distinct.{IsListed}
+use Rattle.form_types.specs.Distinct.{KeepsGroups}
 use Rattle.form_types.specs.Finding.{FirstIds, first_of, next_key}
 
 -- each first id is below 2 ^ 30
@@ -20,13 +20,13 @@ HasFewIds ids = (key : CanonicalGroup) (first : ℕ) → first_of ids key ≡ So
 -- an equal group was read
 pub record AddsMet (old new : Numbering) (g : NamedGroup) (first : ℕ) : Type 0 where
   pub ids : ids_of new.declared.items ≡ ids_of old.declared.items ++ range_with_len first (length g)
-  pub listed : IsListed new.distinct (map group_of old.distinct.groups.items)
+  pub listed : KeepsGroups new.distinct (map group_of old.distinct.groups.items)
   pub met : (q : CanonicalGroup) → first_of new.first_ids q ≡ first_of old.first_ids q
 
 -- the group is new, and its references to its own members become ids too
 pub record AddsNew (old new : Numbering) (g : NamedGroup) (key : CanonicalGroup) : Type 0 where
   pub ids : ids_of new.declared.items ≡ ids_of old.declared.items ++ range_with_len old.distinct.next (length g)
-  pub listed : IsListed new.distinct (map group_of old.distinct.groups.items
+  pub listed : KeepsGroups new.distinct (map group_of old.distinct.groups.items
       ++ map_group (named_index (ids_of new.declared.items)) (named_index (ids_of new.declared.items)) g ∷ [])
   pub met : (q : CanonicalGroup) → first_of new.first_ids q ≡ cond (group.ghosts.eq key q) (Some old.distinct.next) (first_of old.first_ids q)
 

@@ -1,7 +1,7 @@
 -- The frame of a type as bytes: all of it but what its references name.
 use Rattle.std.specs.Prelude.{ℕ, ◌+◌, Bool, List, [], ◌∷◌, ◌++◌, map, is_some, if◌then◌else◌}
 use Rattle.std.specs.List.{flat_map}
-use Rattle.wasm_spec.specs.TypeData.{Heap, Concrete, Abstract, Reference, Value, I32, I64, F32, F64, V128, Ref, Storage, I8, I16, Val, Field, Function, Composite, Func, Array, Struct, Cont, Exn, SubType, Group}
+use Rattle.wasm_spec.specs.TypeData.{Heap, Concrete, Abstract, Reference, ValueType, I32, I64, F32, F64, V128, Ref, Storage, I8, I16, Val, Field, Function, Composite, Func, Array, Struct, Cont, Exn, SubType, Group}
 use Rattle.type_spec.specs.Same.{heap_byte}
 
 abbrev pub flag : Bool → ℕ
@@ -19,7 +19,7 @@ module _ {H : Type 0} where
   abbrev pub reference_code : Reference H → ℕ
   reference_code r = if r.nullable then heap_code r.heap else heap_code r.heap + 128
 
-  abbrev pub value_code : Value H → ℕ
+  abbrev pub value_code : ValueType H → ℕ
   value_code I32 = 0x7F
   value_code I64 = 0x7E
   value_code F32 = 0x7D

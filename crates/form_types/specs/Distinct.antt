@@ -10,7 +10,7 @@ spans first [] = []
 spans first (g ∷ gs) = (first, first + length g) ∷ spans (first + length g) gs
 
 -- these groups are kept, with the number of the group of each id, and the ids of each group
-pub record IsListed (d : Distinct) (groups : List NamedGroup) : Type 0 where
+pub record KeepsGroups (d : Distinct) (groups : List NamedGroup) : Type 0 where
   pub groups_are : map group_of d.groups.items ≡ groups
   pub numbers_are : d.numbers.items ≡ group_numbers 0 groups
   pub spans_are : d.spans.items ≡ spans 0 groups

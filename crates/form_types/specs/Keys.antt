@@ -39,6 +39,6 @@ canonical_index ids start index = index_of (target (slice_index ids) start (plac
 abbrev pub targets : List ℕ → ℕ → List UnpackedIndex → List UnpackedIndex
 targets ids start edges = map (canonical_index ids start) edges
 
-pub record Adds (old new : CanonicalGroup) (codes : List ℕ) (references : List UnpackedIndex) : Type 0 where
+pub record AddsToKey (old new : CanonicalGroup) (codes : List ℕ) (references : List UnpackedIndex) : Type 0 where
   pub frame : new.frame.items ≡ old.frame.items ++ codes
   pub names : new.references.items ≡ old.references.items ++ references

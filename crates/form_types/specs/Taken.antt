@@ -17,7 +17,7 @@ use Rattle.form_types.specs.Placed.{placed}
 use Rattle.form_types.specs.EarlierTypes.{ids_of}
 use Rattle.form_types.specs.Keys.{GroupKey, group_key, key_of}
 use Rattle.form_types.specs.Finding.{first_of}
-use Rattle.form_types.specs.Distinct.{IsListed}
+use Rattle.form_types.specs.Distinct.{KeepsGroups}
 use Rattle.form_types.specs.Below.{NamesBelow}
 
 -- ---- what was numbered so far
@@ -47,14 +47,14 @@ abbrev pub NearIn : Home → Type 0
 NearIn g = All (λ r. r < g.start + length g.members) (group_edges (λ r. r) g.members)
 
 -- the groups of some keys by ids, each key once
-pub record AreListed (keys : List Canonical) (groups : List NamedGroup) : Type 0 where
+pub record KeysAreListed (keys : List Canonical) (groups : List NamedGroup) : Type 0 where
   pub long : length groups ≡ length keys
   pub are : (k : ℕ) → k < length keys → get_or groups k [] ≡ by_ids (first_id groups k) (get_or keys k [])
   pub apart : AllPairs (λ c d. c ≢ d) keys
   pub references : NameEarlier 0 groups
 
 -- a type has its number in the group of its key, whose references are near
-pub record Stands (keys : List Canonical) (groups : List NamedGroup) (number : ℕ → ℕ) (i : ℕ) (g : Home) : Type 0 where
+pub record HasNumberInGroup (keys : List Canonical) (groups : List NamedGroup) (number : ℕ → ℕ) (i : ℕ) (g : Home) : Type 0 where
   pub at : ℕ
   pub below : at < length keys
   pub key : get_or keys at [] ≡ canonical number g
@@ -68,26 +68,26 @@ TellsAt keys groups key None = (k : ℕ) → k < length keys → key ≡ group_k
 
 pub record IsNumbered (gs : List (Group ℕ ℕ)) (number : ℕ → ℕ) (keys : List Canonical) (groups : List NamedGroup) (get : CanonicalGroup → Option ℕ) : Type 0 where
   pub few : length (types_by_id groups) ≤ length (types_of gs)
-  pub listed : AreListed keys groups
+  pub listed : KeysAreListed keys groups
   pub tells : (q : CanonicalGroup) → TellsAt keys groups (key_of q) (get q)
-  pub stands : (i : ℕ) → i < length (types_of gs) → Stands keys groups number i (home gs i)
+  pub stands : (i : ℕ) → i < length (types_of gs) → HasNumberInGroup keys groups number i (home gs i)
   pub given : AreGiven number (length (types_of gs)) (length (types_by_id groups))
 
 abbrev pub places : List NamedGroup → List (Group ℕ ℕ)
 places gs = map placed gs
 
 -- the first groups are numbered
-pub record Built (done : List NamedGroup) (n : Numbering) : Type 0 where
+pub record FirstAreNumbered (done : List NamedGroup) (n : Numbering) : Type 0 where
   pub keys : List Canonical
   pub numbered : IsNumbered (places done) (slice_index (ids_of n.declared.items)) keys (map group_of n.distinct.groups.items) (first_of n.first_ids)
   pub counted : length (ids_of n.declared.items) ≡ length (types_of (places done))
-  pub listed : IsListed n.distinct (map group_of n.distinct.groups.items)
+  pub listed : KeepsGroups n.distinct (map group_of n.distinct.groups.items)
 
 -- ---- the groups that were taken
 
 -- these groups were taken: where each type names what it may, they are numbered, and are few and short
 pub record Took (n : Numbering) (groups : List NamedGroup) : Type 0 where
   pub below : IsTrue n.names_below ↔ All NamesBelow (declared_groups 0 groups)
-  pub built : IsTrue n.names_below → Built groups n
+  pub built : IsTrue n.names_below → FirstAreNumbered groups n
   pub few : IsTrue n.names_below → length (types_by_id groups) < 2 ^ 30
   pub short : IsTrue n.names_below → All HasShortLists (types_by_id groups)

@@ -61,7 +61,7 @@ CompositeContinues types _ = Unit {0}
 abbrev pub ContinuesFunction : List (SubType UnpackedIndex UnpackedIndex) → SubType UnpackedIndex UnpackedIndex → Type 0
 ContinuesFunction types t = CompositeContinues types t.composite.inner
 
-pub record IsSound (t : TypesData) : Type 0 where
+pub record TypesAreSound (t : TypesData) : Type 0 where
   pub references : NameEarlier 0 t.groups
   pub continuations : All (ContinuesFunction (types_by_id t.groups)) (types_by_id t.groups)
   pub lists : All HasShortLists (types_by_id t.groups)

@@ -10,7 +10,7 @@ ghost use Rattle.std.specs.Cmp.Lexicographic.{bytes_decides};
 ghost use Rattle.std.specs.Hash as fed;
 ghost use Rattle.std.specs.Hash.{same_Alike, on_Alike, and-Alike, items_Alike};
 ghost use Rattle.wasm_spec.specs.contracts.types.UnpackedIndexHash.TheImpl.Laws as index_hash;
-ghost use Rattle.form_types.specs.Keys.{key_of, Adds};
+ghost use Rattle.form_types.specs.Keys.{key_of, AddsToKey};
 
 use crate::codes::{END, I32, below_i32, flag, named_by, storage_code, value_code};
 use form_reader::{CompositeInnerType, FuncType, SubType};
@@ -76,7 +76,7 @@ impl CanonicalGroup {
 
     /// Adds the members of a group.
     pub fn add_group(&mut self, types: &[SubType]) -> Result<(), AllocError>
-        ensures { OnOk result (Adds self.old self.new (group_codes (map sub_type_of types.now)) (group_edges (λ i. i) (map sub_type_of types.now))) }
+        ensures { OnOk result (AddsToKey self.old self.new (group_codes (map sub_type_of types.now)) (group_edges (λ i. i) (map sub_type_of types.now))) }
     {
         for ty in types {
             self.add_sub_type(ty)?;
@@ -85,14 +85,14 @@ impl CanonicalGroup {
     }
 
     fn add_sub_type(&mut self, ty: &SubType) -> Result<(), AllocError>
-        ensures { OnOk result (Adds self.old self.new (sub_type_codes (sub_type_of ty.now)) (sub_type_edges (λ i. i) (sub_type_of ty.now))) }
+        ensures { OnOk result (AddsToKey self.old self.new (sub_type_codes (sub_type_of ty.now)) (sub_type_edges (λ i. i) (sub_type_of ty.now))) }
     {
         self.add_head(ty)?;
         self.add_composite(&ty.composite)
     }
 
     fn add_head(&mut self, ty: &SubType) -> Result<(), AllocError>
-        ensures { OnOk result (Adds self.old self.new (head_codes (sub_type_of ty.now)) (option_to_list ty.now.supertype)) }
+        ensures { OnOk result (AddsToKey self.old self.new (head_codes (sub_type_of ty.now)) (option_to_list ty.now.supertype)) }
     {
         self.frame.push(flag(ty.is_final))?;
         self.frame.push(flag(ty.supertype.is_some()))?;
@@ -105,7 +105,7 @@ impl CanonicalGroup {
     }
 
     fn add_composite(&mut self, composite: &CompositeInnerType) -> Result<(), AllocError>
-        ensures { OnOk result (Adds self.old self.new (composite_codes (composite_of composite.now)) (composite_edges (λ i. i) (composite_of composite.now))) }
+        ensures { OnOk result (AddsToKey self.old self.new (composite_codes (composite_of composite.now)) (composite_edges (λ i. i) (composite_of composite.now))) }
     {
         match composite {
             CompositeInnerType::Func(function) => {
@@ -127,7 +127,7 @@ impl CanonicalGroup {
     }
 
     fn add_function(&mut self, function: &FuncType) -> Result<(), AllocError>
-        ensures { OnOk result (Adds self.old self.new (function_codes (function_of function.now)) (function_edges (λ i. i) (function_of function.now))) }
+        ensures { OnOk result (AddsToKey self.old self.new (function_codes (function_of function.now)) (function_edges (λ i. i) (function_of function.now))) }
     {
         self.add_values(&function.params)?;
         self.add_values(&function.results)
@@ -135,7 +135,7 @@ impl CanonicalGroup {
 
     /// Adds values, and the end mark.
     fn add_values(&mut self, values: &[ValType]) -> Result<(), AllocError>
-        ensures { OnOk result (Adds self.old self.new (ended (map value_code (map value_of values.now))) (flat_map (value_edges (λ i. i)) (map value_of values.now))) }
+        ensures { OnOk result (AddsToKey self.old self.new (ended (map value_code (map value_of values.now))) (flat_map (value_edges (λ i. i)) (map value_of values.now))) }
     {
         self.frame.reserve(values.len() + 1)?;
         for value in values {
@@ -149,7 +149,7 @@ impl CanonicalGroup {
     #[inline(always)]
     fn add_value(&mut self, value: &ValType) -> Result<(), AllocError>
         requires { vec_len self.old.frame < vec_capacity self.old.frame }
-        ensures adds { OnOk result (Adds self.old self.new (value_code (value_of value.now) ∷ []) (value_edges (λ i. i) (value_of value.now))) }
+        ensures adds { OnOk result (AddsToKey self.old self.new (value_code (value_of value.now) ∷ []) (value_edges (λ i. i) (value_of value.now))) }
         ensures len { vec_len self.new.frame ≡ vec_len self.old.frame + 1 }
         ensures capacity { vec_capacity self.new.frame ≡ vec_capacity self.old.frame }
     {
@@ -163,7 +163,7 @@ impl CanonicalGroup {
     /// As `add_value`, of a reference.
     fn add_reference(&mut self, value: &ValType) -> Result<(), AllocError>
         requires { vec_len self.old.frame < vec_capacity self.old.frame }
-        ensures adds { OnOk result (Adds self.old self.new (value_code (value_of value.now) ∷ []) (value_edges (λ i. i) (value_of value.now))) }
+        ensures adds { OnOk result (AddsToKey self.old self.new (value_code (value_of value.now) ∷ []) (value_edges (λ i. i) (value_of value.now))) }
         ensures len { vec_len self.new.frame ≡ vec_len self.old.frame + 1 }
         ensures capacity { vec_capacity self.new.frame ≡ vec_capacity self.old.frame }
     {
@@ -175,7 +175,7 @@ impl CanonicalGroup {
     }
 
     fn add_struct(&mut self, fields: &[FieldType]) -> Result<(), AllocError>
-        ensures { OnOk result (Adds self.old self.new (0x5F ∷ fields_codes (map field_of fields.now)) (flat_map (field_edges (λ i. i)) (map field_of fields.now))) }
+        ensures { OnOk result (AddsToKey self.old self.new (0x5F ∷ fields_codes (map field_of fields.now)) (flat_map (field_edges (λ i. i)) (map field_of fields.now))) }
     {
         self.frame.reserve(2 * fields.len() + 2)?;
         self.frame.push_reserved(0x5F);
@@ -189,7 +189,7 @@ impl CanonicalGroup {
     /// Adds a field, for which there is capacity.
     fn add_field(&mut self, field: &FieldType) -> Result<(), AllocError>
         requires { vec_len self.old.frame + 2 ≤ vec_capacity self.old.frame }
-        ensures adds { OnOk result (Adds self.old self.new (field_codes (field_of field.now)) (field_edges (λ i. i) (field_of field.now))) }
+        ensures adds { OnOk result (AddsToKey self.old self.new (field_codes (field_of field.now)) (field_edges (λ i. i) (field_of field.now))) }
         ensures len { vec_len self.new.frame ≡ vec_len self.old.frame + 2 }
         ensures capacity { vec_capacity self.new.frame ≡ vec_capacity self.old.frame }
     {

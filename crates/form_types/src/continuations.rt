@@ -3,7 +3,7 @@
 ghost use Rattle.std.specs.Prelude.{◌↔◌, map, All, IsTrue};
 ghost use Rattle.form_reader.specs.Views.{composite_of, sub_type_of, group_of};
 ghost use Rattle.rule_spec.specs.TypeRules.{IsFunction};
-ghost use Rattle.form_types.specs.Distinct.{IsListed};
+ghost use Rattle.form_types.specs.Distinct.{KeepsGroups};
 ghost use Rattle.form_types.specs.Types.{types_by_id, NamesFunction, CompositeContinues, ContinuesFunction};
 
 use crate::distinct::Distinct;
@@ -24,7 +24,7 @@ pub fn is_function(kind: &CompositeInnerType) -> bool
 
 /// Whether an id is that of a function type.
 fn names_function(distinct: &Distinct, index: &UnpackedIndex) -> bool
-    requires { IsListed distinct.now (map group_of distinct.now.groups.items) }
+    requires { KeepsGroups distinct.now (map group_of distinct.now.groups.items) }
     ensures { IsTrue result ↔ NamesFunction (types_by_id (map group_of distinct.now.groups.items)) index.now }
 {
     match index {
@@ -37,7 +37,7 @@ fn names_function(distinct: &Distinct, index: &UnpackedIndex) -> bool
 }
 
 fn continues_function(distinct: &Distinct, kind: &CompositeInnerType) -> bool
-    requires { IsListed distinct.now (map group_of distinct.now.groups.items) }
+    requires { KeepsGroups distinct.now (map group_of distinct.now.groups.items) }
     ensures { IsTrue result ↔ CompositeContinues (types_by_id (map group_of distinct.now.groups.items)) (composite_of kind.now) }
 {
     match kind {
@@ -49,7 +49,7 @@ fn continues_function(distinct: &Distinct, kind: &CompositeInnerType) -> bool
 }
 
 fn members_continue(distinct: &Distinct, types: &[SubType]) -> bool
-    requires { IsListed distinct.now (map group_of distinct.now.groups.items) }
+    requires { KeepsGroups distinct.now (map group_of distinct.now.groups.items) }
     ensures { IsTrue result ↔ All (ContinuesFunction (types_by_id (map group_of distinct.now.groups.items))) (map sub_type_of types.now) }
 {
     types
@@ -59,7 +59,7 @@ fn members_continue(distinct: &Distinct, types: &[SubType]) -> bool
 
 /// Whether each continuation names a function type, of types that are named by ids.
 pub fn continuations_hold(distinct: &Distinct) -> bool
-    requires { IsListed distinct.now (map group_of distinct.now.groups.items) }
+    requires { KeepsGroups distinct.now (map group_of distinct.now.groups.items) }
     ensures { IsTrue result
         ↔ All (ContinuesFunction (types_by_id (map group_of distinct.now.groups.items))) (types_by_id (map group_of distinct.now.groups.items)) }
 {

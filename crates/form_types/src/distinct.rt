@@ -2,7 +2,7 @@
 
 ghost use Rattle.std.specs.Prelude.{◌≡◌, ◌+◌, ◌<◌, ◌^◌, ◌++◌, ◌∷◌, [], length, map, slice_get, Some, OnOk};
 ghost use Rattle.form_reader.specs.Views.{group_of, sub_type_of};
-ghost use Rattle.form_types.specs.Distinct.{IsListed};
+ghost use Rattle.form_types.specs.Distinct.{KeepsGroups};
 ghost use Rattle.form_types.specs.Types.{types_by_id};
 
 use form_reader::{RecGroup, SubType};
@@ -24,7 +24,7 @@ pub struct Distinct {
 impl Distinct {
     /// No groups.
     pub fn new(alloc: Global) -> Distinct
-        ensures { IsListed result [] }
+        ensures { KeepsGroups result [] }
     {
         Distinct {
             groups: Vec::new(alloc),
@@ -36,7 +36,7 @@ impl Distinct {
 
     /// The type of an id.
     pub fn type_of(&self, id: CoreTypeId) -> &SubType
-        requires listed { IsListed self.now (map group_of self.now.groups.items) }
+        requires listed { KeepsGroups self.now (map group_of self.now.groups.items) }
         requires known { id.0 < length (types_by_id (map group_of self.now.groups.items)) }
         ensures { slice_get (types_by_id (map group_of self.now.groups.items)) id.0 ≡ Some (sub_type_of result.now) }
     {
@@ -47,10 +47,10 @@ impl Distinct {
 
     /// Appends a group.
     pub fn push(&mut self, group: RecGroup) -> Result<(), AllocError>
-        requires listed { IsListed self.old (map group_of self.old.groups.items) }
+        requires listed { KeepsGroups self.old (map group_of self.old.groups.items) }
         requires some { 0 < length group.types.items }
         requires few { self.old.next + length group.types.items < 2 ^ 30 }
-        ensures { OnOk result (IsListed self.new (map group_of self.old.groups.items ++ group_of group ∷ [])) }
+        ensures { OnOk result (KeepsGroups self.new (map group_of self.old.groups.items ++ group_of group ∷ [])) }
     {
         let number = self.groups.len() as u32;
         let end = self.next + group.types.len() as u32;

@@ -3,7 +3,7 @@
 ghost use Rattle.std.specs.Prelude.{◌≡◌, ◌+◌, ◌<◌, ◌^◌, [], length, map, OnOk};
 ghost use Rattle.form_reader.specs.Views.{group_of};
 ghost use Rattle.form_types.specs.Keys.{key_of, read_key};
-ghost use Rattle.form_types.specs.Distinct.{IsListed};
+ghost use Rattle.form_types.specs.Distinct.{KeepsGroups};
 ghost use Rattle.form_types.specs.Adding.{HasFewIds, AddsGroup};
 ghost use Rattle.form_types.specs.Taken.{Took};
 
@@ -61,7 +61,7 @@ impl Numbering {
         requires room { length self.old.declared.items + length group.types.items < 2 ^ 30 }
         requires few { self.old.distinct.next + length group.types.items < 2 ^ 30 }
         requires ids { HasFewIds self.old.first_ids }
-        requires listed { IsListed self.old.distinct (map group_of self.old.distinct.groups.items) }
+        requires listed { KeepsGroups self.old.distinct (map group_of self.old.distinct.groups.items) }
         ensures adds { OnOk result (AddsGroup self.old self.new (group_of group)) }
         ensures stays { self.new.names_below ≡ self.old.names_below }
     {

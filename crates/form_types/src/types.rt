@@ -2,7 +2,7 @@
 
 ghost use Rattle.std.specs.Prelude.{◌≡◌, ◌<◌, length, slice_get, slice_index, Some};
 ghost use Rattle.form_reader.specs.Views.{sub_type_of};
-ghost use Rattle.form_types.specs.Types.{types_by_id, group_numbers, member_ids, IsSound};
+ghost use Rattle.form_types.specs.Types.{types_by_id, group_numbers, member_ids, TypesAreSound};
 
 use crate::distinct::Distinct;
 use crate::elements::{CoreTypeIds, RecGroupId};
@@ -27,20 +27,20 @@ pub struct Types {
 impl Model for Types {
     ghost use Rattle.wasm_spec.specs.declared.types.CoreTypeId.{CoreTypeId};
     ghost use Rattle.form_types.specs.Types.{TypesData};
-    ghost use Rattle.form_types.specs.Kept.{data_of, IsKept};
+    ghost use Rattle.form_types.specs.Kept.{data_of, TypesAreKept};
 
     ghost Value = { TypesData };
 
     ghost view = { λ t. data_of t.validator t.distinct t.declared.items };
 
-    ghost invariant = { λ t. IsKept (data_of t.validator t.distinct t.declared.items) t.distinct };
+    ghost invariant = { λ t. TypesAreKept (data_of t.validator t.distinct t.declared.items) t.distinct };
 }
 
 impl Types {
     /// The number of the validator that made the list.
     pub fn id(&self) -> ValidatorId
         ensures made { result.0 ≡ self.now.validator }
-        ensures sound { IsSound self.now }
+        ensures sound { TypesAreSound self.now }
     {
         self.validator
     }

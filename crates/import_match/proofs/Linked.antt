@@ -25,7 +25,7 @@ use Rattle.type_registry.specs.declared.key.ModuleKey.{ModuleKey}
 use Rattle.import_match.specs.Definitions.{Definition, TwoNames, AreOnce, names_of}
 use Rattle.import_match.specs.Linking.{engine_definition, export_of, exports_of, wants_of, exported, IsExportResolved, wanted, engine_definitions, engine_type}
 use Rattle.import_match.proofs.Listing.{value_of, slice_get-filter_map, length-filter_map, slice_get-from_map, one-place}
-use Rattle.import_match.specs.declared.names.Names.{Names}
+use Rattle.import_match.specs.declared.names.DefinitionNames.{DefinitionNames}
 use Rattle.import_match.specs.Kept.{definition_of}
 
 -- ---- exports
@@ -167,7 +167,7 @@ module _ (registry : RegistryState) (key : ModuleKey) (m : Record) (from : List 
         (All-head P ((from, own), t) (listing rest) both, All-tail P ((from, own), t) (listing rest) both)
 
     -- once it is planned
-    pub pushed : (ps qs : List (Names × EntityType)) (names : Names) (u : EntityType) → qs ≡ ps ++ (names, u) ∷ [] → names_of names ≡ (from, own)
+    pub pushed : (ps qs : List (DefinitionNames × EntityType)) (names : DefinitionNames) (u : EntityType) → qs ≡ ps ++ (names, u) ∷ [] → names_of names ≡ (from, own)
         → u ≡ engine_type (registry_of registry) (key_number key) t → map definition_of ps ++ planned it ≡ exported registry key m from
         → map definition_of qs ++ planned rest ≡ exported registry key m from
     pushed ps qs names u grown named is-type listed =

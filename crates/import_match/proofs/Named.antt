@@ -8,8 +8,8 @@ use Rattle.std.specs.Cmp.Lexicographic.{slice_cmp}
 use Rattle.std.proofs.lemmas.Bool.{and_from, and_parts}
 use Rattle.std.proofs.lemmas.Slice.Eq.{bytes_eq-Decides}
 use Rattle.std.proofs.lemmas.Map.Text.{is_eq-slice_cmp}
-use Rattle.import_match.specs.declared.names.Names.{Names}
-use Rattle.import_match.specs.contracts.names.NamesOrd.TheImpl as ordered
+use Rattle.import_match.specs.declared.names.DefinitionNames.{DefinitionNames}
+use Rattle.import_match.specs.contracts.names.DefinitionNamesOrd.TheImpl as ordered
 use Rattle.import_match.specs.Digest.{digest_of}
 use Rattle.import_match.specs.Definitions.{TwoNames, names_of, names_eq}
 
@@ -20,7 +20,7 @@ pub equal-names : (a b : TwoNames) → names_eq a b ≡ true → a ≡ b
 equal-names a b e = grind (arith, and_parts, bytes_eq-Decides)
 
 -- the order of names is equal exactly at equal names, which have one digest
-pub order-eq : (a b : Names) → is_eq (ordered.ghosts.cmp a b) ≡ names_eq (names_of a) (names_of b)
+pub order-eq : (a b : DefinitionNames) → is_eq (ordered.ghosts.cmp a b) ≡ names_eq (names_of a) (names_of b)
 order-eq a b = by (names_eq (names_of a) (names_of b)) refl
   where
     digests : Ordering

@@ -4,7 +4,7 @@ use Rattle.std.specs.Prelude.{◌≡◌, ℕ, ◌+◌, Bool, ◌&&◌, List, [],
 use Rattle.std.specs.Str.{bytes_eq}
 use Rattle.std.specs.String.{string_bytes}
 use Rattle.wasm_types.specs.declared.entity.EntityType.{EntityType}
-use Rattle.import_match.specs.declared.names.Names.{Names}
+use Rattle.import_match.specs.declared.names.DefinitionNames.{DefinitionNames}
 
 -- the name of a module, and the name of an entity there
 abbrev pub TwoNames : Type 0
@@ -14,7 +14,7 @@ TwoNames = List ℕ × List ℕ
 abbrev pub Definition : Type 0
 Definition = TwoNames × EntityType
 
-abbrev pub names_of : Names → TwoNames
+abbrev pub names_of : DefinitionNames → TwoNames
 names_of n = (string_bytes n.from, string_bytes n.own)
 
 abbrev pub names_eq : TwoNames → TwoNames → Bool

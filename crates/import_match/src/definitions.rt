@@ -3,17 +3,17 @@
 ghost use Rattle.std.specs.Prelude.{◌≡◌, ℕ, ◌≤◌, ◌+◌, ◌⊎◌, [], ◌∷◌, ◌++◌, length, map, filter, All, None, IfOk, IfErr, OnOk, OnErr};
 ghost use Rattle.import_match.specs.declared.error.LinkError.TheVariants as refused;
 ghost use Rattle.import_match.specs.Definitions.{Definition, names_of, found, IsDefined, AreOnce};
-ghost use Rattle.import_match.specs.Kept.{definition_of, in_order, is_below, AreKept};
+ghost use Rattle.import_match.specs.Kept.{definition_of, in_order, is_below, DefinitionsAreKept};
 
 use crate::error::LinkError;
-use crate::names::Names;
+use crate::names::DefinitionNames;
 use std::alloc::{AllocError, Global};
 use std::collections::BTreeMap;
 use std::marker::Model;
 use wasm_types::EntityType;
 
 /// The number and the type of each definition, by its names.
-type Numbered = BTreeMap<Names, (usize, EntityType)>;
+type Numbered = BTreeMap<DefinitionNames, (usize, EntityType)>;
 
 /// Definitions in order, no two under the same names. They are found in a map that is ordered by
 /// the names. So a look-up makes only a few comparisons of names for each doubling of the count,
@@ -26,13 +26,13 @@ pub(crate) struct Definitions {
 impl Model for Definitions {
     ghost use Rattle.std.specs.Prelude.{List};
     ghost use Rattle.import_match.specs.Definitions.{Definition};
-    ghost use Rattle.import_match.specs.Kept.{in_order, AreKept};
+    ghost use Rattle.import_match.specs.Kept.{in_order, DefinitionsAreKept};
 
     ghost Value = { List Definition };
 
     ghost view = { λ d. in_order d.numbered.entries };
 
-    ghost invariant = { λ d. AreKept d.numbered.entries };
+    ghost invariant = { λ d. DefinitionsAreKept d.numbered.entries };
 }
 
 impl Definitions {
@@ -53,7 +53,7 @@ impl Definitions {
     }
 
     /// The definition under two names: its number and its type.
-    pub(crate) fn find(&self, names: &Names) -> Option<(usize, EntityType)>
+    pub(crate) fn find(&self, names: &DefinitionNames) -> Option<(usize, EntityType)>
         ensures { result ≡ found self.now (names_of names.now) }
     {
         let (number, ty) = self.numbered.get(names)?;
@@ -61,7 +61,11 @@ impl Definitions {
     }
 
     /// Appends a definition under names that are new, and gives its number.
-    pub(crate) fn append(&mut self, names: Names, ty: EntityType) -> Result<usize, AllocError>
+    pub(crate) fn append(
+        &mut self,
+        names: DefinitionNames,
+        ty: EntityType,
+    ) -> Result<usize, AllocError>
         requires { found self.old (names_of names) ≡ None }
         ensures number { IfOk result (λ number. number ≡ length self.old) }
         ensures ok { OnOk result (self.new ≡ self.old ++ (names_of names, ty) ∷ []) }
@@ -72,7 +76,10 @@ impl Definitions {
     }
 
     /// Appends definitions under names that are new, or none where memory runs out.
-    pub(crate) fn append_all(&mut self, planned: Vec<(Names, EntityType)>) -> Result<(), AllocError>
+    pub(crate) fn append_all(
+        &mut self,
+        planned: Vec<(DefinitionNames, EntityType)>,
+    ) -> Result<(), AllocError>
         requires new { All (λ (d : Definition). found self.old d.0 ≡ None) (map definition_of planned.items) }
         requires once { AreOnce (map definition_of planned.items) }
         ensures ok { OnOk result (self.new ≡ self.old ++ map definition_of planned.items) }
@@ -89,11 +96,15 @@ impl Definitions {
 }
 
 /// Inserts a definition under names that are new; its number is the count of those before.
-fn insert(numbered: &mut Numbered, names: Names, ty: EntityType) -> Result<usize, AllocError>
-    requires kept { AreKept numbered.old.entries }
+fn insert(
+    numbered: &mut Numbered,
+    names: DefinitionNames,
+    ty: EntityType,
+) -> Result<usize, AllocError>
+    requires kept { DefinitionsAreKept numbered.old.entries }
     requires new { found (in_order numbered.old.entries) (names_of names) ≡ None }
     ensures number { IfOk result (λ number. number ≡ length numbered.old.entries) }
-    ensures kept { OnOk result (AreKept numbered.new.entries) }
+    ensures kept { OnOk result (DefinitionsAreKept numbered.new.entries) }
     ensures ok { OnOk result (in_order numbered.new.entries ≡ in_order numbered.old.entries ++ (names_of names, ty) ∷ []) }
     ensures err { OnErr result (numbered.new.entries ≡ numbered.old.entries) }
     ensures count { OnOk result (length numbered.new.entries ≡ length numbered.old.entries + 1) }
@@ -107,11 +118,14 @@ fn insert(numbered: &mut Numbered, names: Names, ty: EntityType) -> Result<usize
 
 /// Inserts definitions under names that are new, in order. Where memory runs out, the earlier ones
 /// are the entries whose numbers are below their count.
-fn insert_all(numbered: &mut Numbered, planned: Vec<(Names, EntityType)>) -> Result<(), AllocError>
-    requires kept { AreKept numbered.old.entries }
+fn insert_all(
+    numbered: &mut Numbered,
+    planned: Vec<(DefinitionNames, EntityType)>,
+) -> Result<(), AllocError>
+    requires kept { DefinitionsAreKept numbered.old.entries }
     requires new { All (λ (d : Definition). found (in_order numbered.old.entries) d.0 ≡ None) (map definition_of planned.items) }
     requires once { AreOnce (map definition_of planned.items) }
-    ensures kept { OnOk result (AreKept numbered.new.entries) }
+    ensures kept { OnOk result (DefinitionsAreKept numbered.new.entries) }
     ensures ok { OnOk result (in_order numbered.new.entries ≡ in_order numbered.old.entries ++ map definition_of planned.items) }
     ensures err { OnErr result (filter (is_below (length numbered.old.entries)) numbered.new.entries ≡ numbered.old.entries) }
 {
@@ -127,13 +141,13 @@ pub(crate) fn new_names(
     definitions: &Definitions,
     from: &str,
     own: &str,
-) -> Result<Names, LinkError>
+) -> Result<DefinitionNames, LinkError>
     ensures names { IfOk result (λ n. names_of n ≡ (from.now, own.now)) }
     ensures new { OnOk result (found definitions.now (from.now, own.now) ≡ None) }
     ensures err { IfErr result (λ e. (e ≡ refused.OutOfMemory)
         ⊎ ((e ≡ refused.Duplicate) × IsDefined definitions.now (from.now, own.now))) }
 {
-    let names = Names::of(alloc, from, own)?;
+    let names = DefinitionNames::of(alloc, from, own)?;
     if definitions.find(&names).is_some() {
         return Err(LinkError::Duplicate);
     }

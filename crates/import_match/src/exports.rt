@@ -10,7 +10,7 @@ ghost use Rattle.import_match.specs.Linking.{exported, CanExport, IsHeld};
 use crate::definitions::{Definitions, new_names};
 use crate::engine_types::with_engine_types;
 use crate::error::LinkError;
-use crate::names::Names;
+use crate::names::DefinitionNames;
 use std::alloc::Global;
 use type_registry::{ModuleKey, TypeRegistry};
 use wasm_module::Module;
@@ -25,7 +25,7 @@ pub(crate) fn planned_exports(
     key: ModuleKey,
     as_module: &str,
     module: &Module,
-) -> Result<Vec<(Names, EntityType)>, LinkError>
+) -> Result<Vec<(DefinitionNames, EntityType)>, LinkError>
     requires held { IsHeld registry.now key }
     requires can { CanExport registry.now key «module».now as_module.now }
     ensures planned { IfOk result (λ planned. map definition_of planned.items ≡ exported registry.now key «module».now as_module.now) }

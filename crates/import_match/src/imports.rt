@@ -10,7 +10,7 @@ ghost use Rattle.import_match.specs.Resolving.{answer_at, resolved, IsAnswer, Is
 use crate::definitions::Definitions;
 use crate::engine_types::with_engine_types;
 use crate::error::LinkError;
-use crate::names::Names;
+use crate::names::DefinitionNames;
 use crate::rules::match_entity;
 use std::alloc::Global;
 use type_registry::{ModuleKey, TypeRegistry};
@@ -21,7 +21,7 @@ use wasm_types::EntityType;
 /// type.
 fn answer(
     definitions: &Definitions,
-    names: &Names,
+    names: &DefinitionNames,
     place: usize,
     want: &EntityType,
 ) -> Result<usize, LinkError>
@@ -46,7 +46,7 @@ pub(crate) fn resolve_at(
     key: ModuleKey,
     module: &Module,
     place: usize,
-    names: &mut Names,
+    names: &mut DefinitionNames,
 ) -> Result<usize, LinkError>
     requires definitions { All (λ (d : Definition). HasEngineTypes d.1) definitions.now }
     requires held { IsHeld registry.now key }
@@ -77,7 +77,7 @@ pub(crate) fn resolve_imports(
 {
     let count = module.initializers.len();
     let mut numbers = Vec::with_capacity(alloc, count)?;
-    let mut names = Names::new(alloc);
+    let mut names = DefinitionNames::new(alloc);
     for place in 0..count {
         let number = resolve_at(definitions, registry, key, module, place, &mut names)?;
         numbers.push(number)?;

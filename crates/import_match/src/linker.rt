@@ -14,7 +14,7 @@ use crate::definitions::{Definitions, new_names};
 use crate::error::LinkError;
 use crate::exports::planned_exports;
 use crate::imports::{resolve_at, resolve_imports};
-use crate::names::Names;
+use crate::names::DefinitionNames;
 use std::alloc::Global;
 use std::marker::Model;
 use type_registry::{ModuleKey, TypeRegistry};
@@ -172,7 +172,7 @@ impl Linker {
         if registry.type_count(key).is_none() {
             return Err(LinkError::NotHeld);
         }
-        let mut names = Names::new(self.alloc);
+        let mut names = DefinitionNames::new(self.alloc);
         resolve_at(&self.definitions, registry, key, module, place, &mut names)
     }
 }

@@ -10,7 +10,7 @@ use std::hash::{DefaultHasher, Hasher};
 /// The name of a module, and the name of an entity there. They are ordered by their digests, and
 /// where these are equal by their bytes.
 #[derive(Drop, PartialEq, Eq, PartialOrd, Ord)]
-pub(crate) struct Names {
+pub(crate) struct DefinitionNames {
     digest: u64,
     pub(crate) from: String,
     pub(crate) own: String,
@@ -35,12 +35,12 @@ fn copy(to: &mut String, text: &str) -> Result<(), AllocError>
     to.push_str(text)
 }
 
-impl Names {
+impl DefinitionNames {
     ghost use Rattle.import_match.specs.Definitions.{names_of};
 
     /// Two empty names.
-    pub(crate) fn new(alloc: Global) -> Names {
-        Names {
+    pub(crate) fn new(alloc: Global) -> DefinitionNames {
+        DefinitionNames {
             digest: digest_of("", ""),
             from: String::new(alloc),
             own: String::new(alloc),
@@ -48,10 +48,10 @@ impl Names {
     }
 
     /// A copy of two names.
-    pub(crate) fn of(alloc: Global, from: &str, own: &str) -> Result<Names, AllocError>
+    pub(crate) fn of(alloc: Global, from: &str, own: &str) -> Result<DefinitionNames, AllocError>
         ensures { IfOk result (λ names. names_of names ≡ (from.now, own.now)) }
     {
-        Ok(Names {
+        Ok(DefinitionNames {
             digest: digest_of(from, own),
             from: String::from_str(alloc, from)?,
             own: String::from_str(alloc, own)?,

@@ -48,12 +48,12 @@ pub(crate) fn declared_converter<'a>(
 /// The declared types of a module, each as a reference to its interned type. It holds no borrow, so
 /// that it can be used as a trait object.
 #[derive(Drop)]
-pub struct DeclaredTypes {
+pub struct DeclaredHeapTypes {
     /// What each is named by, by its index.
     pub names: Vec<WasmHeapType>,
 }
 
-impl TypeConvert for DeclaredTypes {
+impl TypeConvert for DeclaredHeapTypes {
     ghost knows = { λ d i. IsNamed d.names.items i };
 
     ghost look_up = { λ d i. name_in d.names.items i };
@@ -98,7 +98,7 @@ pub fn declared_types(
     alloc: Global,
     types: &ModuleTypesBuilder,
     indices: &PrimaryMap<TypeIndex, EngineOrModuleTypeIndex>,
-) -> Result<DeclaredTypes, OutOfMemory>
+) -> Result<DeclaredHeapTypes, OutOfMemory>
     requires { AreHeld indices.now (length types.now.list.types) }
     ensures { IfOk result (λ d. NameEach indices.now types.now d.names.items) }
 {
@@ -107,5 +107,5 @@ pub fn declared_types(
     for number in 0..indices.len() as u32 {
         names.push(converter.lookup_heap_type(UnpackedIndex::Module(number)))?;
     }
-    Ok(DeclaredTypes { names })
+    Ok(DeclaredHeapTypes { names })
 }

@@ -22,7 +22,7 @@ mod tags;
 mod type_laws;
 mod types;
 
-pub use declared::{DeclaredTypes, declared_types, named_heap_type, named_index};
+pub use declared::{DeclaredHeapTypes, declared_types, named_heap_type, named_index};
 pub use tags::convert_tags;
 pub use type_laws::declared_kind_law;
 pub use types::intern_types;

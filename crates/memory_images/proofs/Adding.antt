@@ -10,13 +10,13 @@ use Rattle.std.proofs.lemmas.Option.{slice_get_within}
 use Rattle.replay_spec.specs.Data.{ActiveSegment}
 use Rattle.replay_spec.specs.Images.{ImageMemory, IsPlaced, bytes_on, start_of}
 use Rattle.wasm_types.specs.declared.memory.Memory.{Memory}
-use Rattle.memory_images.specs.declared.laid.Laid.{Laid}
+use Rattle.memory_images.specs.declared.placed_segment.PlacedSegment.{PlacedSegment}
 use Rattle.memory_images.specs.Contents.{piece_of, pieces_in}
-use Rattle.memory_images.specs.Layout.{AreLaid, Adds, laid_piece, unless_empty}
+use Rattle.memory_images.specs.Layout.{AreLaid, AddsSegment, laid_piece, unless_empty}
 use Rattle.memory_images.specs.Views.{image_memory}
 use Rattle.memory_images.proofs.Lists.{some_at}
 
-module _ (x : Laid) (s : ActiveSegment) (start : start_of s ≡ x.start) (bytes : x.bytes.now ≡ s.bytes) where
+module _ (x : PlacedSegment) (s : ActiveSegment) (start : start_of s ≡ x.start) (bytes : x.bytes.now ≡ s.bytes) where
   -- a segment writes its bytes into its own memory
   here : map piece_of (unless_empty x) ≡ map laid_piece (bytes_on s.memory (s ∷ []))
   here = grind (arith, eq-eqb, lt-ltb, and_from, le-ltb, and_right)
@@ -25,7 +25,7 @@ module _ (x : Laid) (s : ActiveSegment) (start : start_of s ≡ x.start) (bytes 
   elsewhere : (m : ℕ) → s.memory ≢ m → bytes_on m (s ∷ []) ≡ []
   elsewhere m off = let test = and_left (s.memory == m) (nat_lt 0 (length s.bytes)) (ne_eqb s.memory m off) in rw test refl
 
-  added : (all all' : List (Vec Laid)) (m : ℕ) → s.memory < length all → Adds all all' s.memory x → pieces_in (slice_get all' m) ≡ pieces_in (slice_get all m) ++ map laid_piece (bytes_on m (s ∷ []))
+  added : (all all' : List (Vec PlacedSegment)) (m : ℕ) → s.memory < length all → AddsSegment all all' s.memory x → pieces_in (slice_get all' m) ≡ pieces_in (slice_get all m) ++ map laid_piece (bytes_on m (s ∷ []))
   added all all' m within adds = ⊎_elim
       (λ (on : s.memory ≡ m).
       let n = adds.count in
@@ -37,8 +37,8 @@ module _ (x : Laid) (s : ActiveSegment) (start : start_of s ≡ x.start) (bytes 
       grind (arith, append-nil, elsewhere))
       (cases_eq s.memory m)
 
-  pub more : (imports : ℕ) (memories : List ImageMemory) (ss : List ActiveSegment) (all all' : List (Vec Laid)) → IsPlaced imports memories s → s.memory < length all
-      → Adds all all' s.memory x → AreLaid imports memories ss all → AreLaid imports memories (ss ++ s ∷ []) all'
+  pub more : (imports : ℕ) (memories : List ImageMemory) (ss : List ActiveSegment) (all all' : List (Vec PlacedSegment)) → IsPlaced imports memories s → s.memory < length all
+      → AddsSegment all all' s.memory x → AreLaid imports memories ss all → AreLaid imports memories (ss ++ s ∷ []) all'
   more imports memories ss all all' p within adds laid = record {
     placed = All-push (IsPlaced imports memories) ss s laid.placed p;
     count = adds.count ∙ laid.count;

@@ -4,19 +4,19 @@ use Rattle.std.proofs.lemmas.List.Folds.{fold-map}
 use Rattle.replay_spec.specs.Phases.{Piece}
 use Rattle.replay_spec.specs.Data.{ActiveSegment}
 use Rattle.replay_spec.specs.Images.{start_of, end_of, least_start, greatest_end, extent, data_size}
-use Rattle.memory_images.specs.declared.laid.Laid.{Laid}
+use Rattle.memory_images.specs.declared.placed_segment.PlacedSegment.{PlacedSegment}
 use Rattle.memory_images.specs.Contents.{piece_of, end_of as laid_end}
 use Rattle.memory_images.specs.Layout.{laid_piece}
 use Rattle.std.proofs.lemmas.List.Elements.{All-map}
 
 -- the least start, or the greatest 64-bit number if that is less
-abbrev pub low_of : List Laid → ℕ
+abbrev pub low_of : List PlacedSegment → ℕ
 low_of laid = fold (λ n x. min n x.start) (2 ^ 64 - 1) laid
 
-abbrev pub high_of : List Laid → ℕ
+abbrev pub high_of : List PlacedSegment → ℕ
 high_of laid = fold (λ n x. max n (laid_end x)) 0 laid
 
-abbrev pub data_of : List Laid → ℕ
+abbrev pub data_of : List PlacedSegment → ℕ
 data_of laid = sum_by (λ x. length x.bytes.now) laid
 
 abbrev lower : ℕ → Piece ℕ → ℕ
@@ -36,7 +36,7 @@ high-fold : (acc : ℕ) (ss : List ActiveSegment) → fold higher acc (map laid_
 high-fold acc [] = omega arith
 high-fold acc (s ∷ ss) = let more = high-fold (max acc (end_of s)) ss in omega (arith, more)
 
-module _ (laid : List Laid) (ss : List ActiveSegment) (same : map piece_of laid ≡ map laid_piece ss) (fits : All (λ x. laid_end x < 2 ^ 64) laid) where
+module _ (laid : List PlacedSegment) (ss : List ActiveSegment) (same : map piece_of laid ≡ map laid_piece ss) (fits : All (λ x. laid_end x < 2 ^ 64) laid) where
   small : (ss : List ActiveSegment) → All (λ p. p.offset + length p.items < 2 ^ 64) (map laid_piece ss) → least_start ss ≤ 2 ^ 64 - 1
   small [] all = omega arith
   small (s ∷ []) all = let f = all 0 (laid_piece s) (omega arith) in omega (arith, f)

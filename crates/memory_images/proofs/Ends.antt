@@ -5,11 +5,11 @@ use Rattle.std.proofs.Math.Nat.{mul-le-mul_right, div-mul-le_self}
 use Rattle.std.proofs.lemmas.Nat.{le-div}
 use Rattle.std.proofs.lemmas.Option.{slice_get_within}
 use Rattle.replay_spec.specs.Phases.{item_at}
-use Rattle.memory_images.specs.declared.laid.Laid.{Laid}
+use Rattle.memory_images.specs.declared.placed_segment.PlacedSegment.{PlacedSegment}
 use Rattle.memory_images.specs.declared.written.Written.{Written}
 use Rattle.memory_images.specs.declared.span.Ends.{Ends}
-use Rattle.memory_images.specs.declared.span.Span.{Span}
-use Rattle.memory_images.specs.Contents.{contents_of, end_of, byte_in, pair_of, piece_of, IsOwned, IsCut, Within}
+use Rattle.memory_images.specs.declared.span.PageSpan.{PageSpan}
+use Rattle.memory_images.specs.Contents.{contents_of, end_of, byte_in, pair_of, piece_of, IsInPiece, HasContentsOver, Within}
 use Rattle.memory_images.specs.Image.{Bounds, EndsOf, joined, ArePages}
 use Rattle.memory_images.specs.Ranges.{last_cover_from, AreWritten}
 use Rattle.memory_images.proofs.Covering.{Covering, covered, uncovered, covers, misses}
@@ -27,7 +27,7 @@ module _ (contents : ℕ → ℕ) (A B C : ℕ → Type 0) (split : (place : ℕ
 
 -- ---- all pieces
 
-module _ (below above : ℕ → ℕ) (x : Laid) (over : (place : ℕ) → above place ≡ unwrap_or (item_at 0 place (piece_of x)) (below place)) where
+module _ (below above : ℕ → ℕ) (x : PlacedSegment) (over : (place : ℕ) → above place ≡ unwrap_or (item_at 0 place (piece_of x)) (below place)) where
   by_place : (place : ℕ) → (above place ≡ below place) ⊎ (Within x place × (above place ≡ byte_in x place))
   by_place place = grind (arith, misses, covers)
 
@@ -37,7 +37,7 @@ module _ (below above : ℕ → ℕ) (x : Laid) (over : (place : ℕ) → above 
 -- ---- all ranges
 
 -- the ends of a piece cut to a range are the ends of the contents in that range
-pub ends_cut : (laid : List Laid) (range : Written) (x : Laid) (ends : Option Ends) → IsCut laid range x → EndsOf (byte_in x) (Within x) ends
+pub ends_cut : (laid : List PlacedSegment) (range : Written) (x : PlacedSegment) (ends : Option Ends) → HasContentsOver laid range x → EndsOf (byte_in x) (Within x) ends
     → IfSome ends (λ ends. Within x ends.first × Within x ends.last) → EndsOf (contents_of laid) (IsIn range) ends
 ends_cut laid range x ends cut h within = grind arith
 
@@ -52,11 +52,11 @@ pub record LiesIn (ranges : List Written) (count place : ℕ) : Type 0 where
 pub one_more : (ranges : List Written) (count : ℕ) (range : Written) → slice_get ranges count ≡ Some range → (place : ℕ) → LiesIn ranges (count + 1) place → LiesIn ranges count place ⊎ IsIn range place
 one_more ranges count range at place i = grind (arith, two_some)
 
-module _ (laid : List Laid) (ranges : List Written) (written : AreWritten (map pair_of laid) ranges) where
+module _ (laid : List PlacedSegment) (ranges : List Written) (written : AreWritten (map pair_of laid) ranges) where
   covering : (k : ℕ) (w : Written) → slice_get ranges k ≡ Some w → (place : ℕ) → w.start ≤ place → place < w.end → Covering laid w.segment place (contents_of laid place)
   covering k w g place h l = covered laid place w.segment (sym (written.places place) ∙ segment_at-range ranges k w place written.ordered g h l)
 
-  pub owned : (k : ℕ) (w : Written) → slice_get ranges k ≡ Some w → IsOwned laid w
+  pub owned : (k : ℕ) (w : Written) → slice_get ranges k ≡ Some w → IsInPiece laid w
   owned k w g =
       let lt : w.start < w.end = all_at (λ (v : Written). v.start < v.end) ranges k w written.some g in
       let c = covering k w g w.start (omega arith) lt in
@@ -82,6 +82,6 @@ module _ (laid : List Laid) (ranges : List Written) (written : AreWritten (map p
 pub page_order : (first last page : ℕ) → 0 < page → first ≤ last → first - first % page ≤ last - last % page
 page_order first last page pos order = grind (arith, div-mul-le_self, le-div, mul-le-mul_right)
 
-pub pages : (ends : Ends) (page : ℕ) (span : Span) → 0 < page → ends.first ≤ ends.last → span.start ≡ ends.first - ends.first % page
+pub pages : (ends : Ends) (page : ℕ) (span : PageSpan) → 0 < page → ends.first ≤ ends.last → span.start ≡ ends.first - ends.first % page
     → span.size ≡ min (ends.last - ends.last % page - (ends.first - ends.first % page) + page) (2 ^ 64 - 1) → ArePages page ends span
 pages ends page span pos order start_is size_is = grind (arith, page_order)

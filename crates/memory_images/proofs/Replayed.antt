@@ -9,7 +9,7 @@ use Rattle.replay_spec.specs.Values.{offset_of}
 use Rattle.replay_spec.specs.Data.{ActiveSegment, piece_of}
 use Rattle.replay_spec.specs.Images.{ImageOptions, ImageMemory, IsStatic, bytes_on, MemoryImage, written_on, ImageOf, AreImages, image_bytes}
 use Rattle.replay_spec.proofs.Covering.{CoversAt, item-cover}
-use Rattle.memory_images.specs.declared.laid.Laid.{Laid}
+use Rattle.memory_images.specs.declared.placed_segment.PlacedSegment.{PlacedSegment}
 use Rattle.memory_images.specs.Contents.{contents_at}
 use Rattle.memory_images.specs.Images.{AreListed}
 use Rattle.memory_images.specs.Layout.{AreLaid, laid_piece}
@@ -28,7 +28,7 @@ moved (s ∷ rest) m place d = ⊎_elim
     rw test (ap (λ o. last_item m place (unwrap_or o d) (map (piece_of offset_of) rest)) none ∙ moved rest m place d))
     (cases_Bool (s.memory == m && nat_lt 0 (length s.bytes)))
 
-module _ (imports : ℕ) (memories : List ImageMemory) (active : List ActiveSegment) (all : List (Vec Laid)) (are : AreLaid imports memories active all)
+module _ (imports : ℕ) (memories : List ImageMemory) (active : List ActiveSegment) (all : List (Vec PlacedSegment)) (are : AreLaid imports memories active all)
     (n page : ℕ) (count : length all ≡ n) (images : List (Option MemoryImage)) where
   contents : contents_at all ≡ written_on active
   contents = λ i m place. (ap (last_item 0 place 0) (are.each m) ∙ sym (moved active m place 0)) i
@@ -40,7 +40,7 @@ module _ (imports : ℕ) (memories : List ImageMemory) (active : List ActiveSegm
   of_laid h = record { count = h.count ∙ sym count; each = λ m image at. subst (λ c. ImageOf page (c m) image) (sym contents) (h.each m image at) }
 
 -- images of the segments pass, or fit, where those of the pieces do
-module _ (imports : ℕ) (memories : List ImageMemory) (active : List ActiveSegment) (all : List (Vec Laid)) (are : AreLaid imports memories active all)
+module _ (imports : ℕ) (memories : List ImageMemory) (active : List ActiveSegment) (all : List (Vec PlacedSegment)) (are : AreLaid imports memories active all)
     (options : ImageOptions) (passive : ℕ) {E : Type 0} where
   pub pass_here : IsStatic options imports memories active → (r : Result (Option ℕ) E)
       → IfOk r (λ o. IfSome o (λ k. (images : List (Option MemoryImage)) → AreListed (λ m. ImageOf options.page (contents_at all m)) (length all) images → PassesAt images passive k))

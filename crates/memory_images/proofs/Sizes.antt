@@ -9,8 +9,8 @@ use Rattle.std.proofs.lemmas.Option.{slice_get-get_or, slice_get_within, get_or_
 use Rattle.replay_spec.specs.Phases.{last_item}
 use Rattle.replay_spec.specs.Images.{MemoryImage, IsImage, ImageOf, image_bytes}
 use Rattle.replay_spec.proofs.One.{same-first, same-last}
-use Rattle.memory_images.specs.declared.laid.Laid.{Laid}
-use Rattle.memory_images.specs.declared.span.Span.{Span}
+use Rattle.memory_images.specs.declared.placed_segment.PlacedSegment.{PlacedSegment}
+use Rattle.memory_images.specs.declared.span.PageSpan.{PageSpan}
 use Rattle.memory_images.specs.Contents.{contents_of, contents_at, pieces_in}
 use Rattle.memory_images.specs.Image.{IsSpan, SpanOf}
 use Rattle.memory_images.specs.Images.{AreListed, span_size}
@@ -26,17 +26,17 @@ listed_behind : {A : Type 0} (R : ℕ → A → Type 0) (n : ℕ) (x : A) (xs : 
 listed_behind R n x xs h = record { count = (let c = h.count in omega arith); each = λ m answer at. h.each (suc m) answer at }
 
 -- a fact of the contents of a memory, by its number
-pub span_from : (page : ℕ) (all : List (Vec Laid)) (m : ℕ) (laid : Vec Laid) (span : Option Span) → slice_get all m ≡ Some laid → SpanOf page (contents_at all m) span → SpanOf page (contents_of laid.items) span
+pub span_from : (page : ℕ) (all : List (Vec PlacedSegment)) (m : ℕ) (laid : Vec PlacedSegment) (span : Option PageSpan) → slice_get all m ≡ Some laid → SpanOf page (contents_at all m) span → SpanOf page (contents_of laid.items) span
 span_from page all m laid span at h = subst (λ o. SpanOf page (λ place. last_item 0 place 0 (pieces_in o)) span) at h
 
-pub image_at : (page : ℕ) (all : List (Vec Laid)) (m : ℕ) (laid : Vec Laid) (image : Option MemoryImage) → slice_get all m ≡ Some laid → ImageOf page (contents_of laid.items) image → ImageOf page (contents_at all m) image
+pub image_at : (page : ℕ) (all : List (Vec PlacedSegment)) (m : ℕ) (laid : Vec PlacedSegment) (image : Option MemoryImage) → slice_get all m ≡ Some laid → ImageOf page (contents_of laid.items) image → ImageOf page (contents_at all m) image
 image_at page all m laid image at h = subst (λ o. ImageOf page (λ place. last_item 0 place 0 (pieces_in o)) image) (sym at) h
 
-size_image : (page : ℕ) (c : ℕ → ℕ) (s : Span) (i : MemoryImage) → IsSpan page c s → IsImage page c i → s.size ≡ min (length i.bytes) (2 ^ 64 - 1)
+size_image : (page : ℕ) (c : ℕ → ℕ) (s : PageSpan) (i : MemoryImage) → IsSpan page c s → IsImage page c i → s.size ≡ min (length i.bytes) (2 ^ 64 - 1)
 size_image page c s i span image = grind (arith, same-first, same-last)
 
 -- spans and images of the same contents are together above 4294967295 bytes in the same cases
-pub same_sums : (page : ℕ) (contents : ℕ → ℕ → ℕ) (n : ℕ) (spans : List (Option Span)) (images : List (Option MemoryImage))
+pub same_sums : (page : ℕ) (contents : ℕ → ℕ → ℕ) (n : ℕ) (spans : List (Option PageSpan)) (images : List (Option MemoryImage))
     → AreListed (λ m. SpanOf page (contents m)) n spans → AreListed (λ m. ImageOf page (contents m)) n images
     → min (sum_by span_size spans) (2 ^ 32) ≡ min (sum_by length (image_bytes images)) (2 ^ 32)
 same_sums page contents n [] [] z w = refl
@@ -45,7 +45,7 @@ same_sums page contents n (s ∷ ss) [] z w = absurd (let a = z.count in let b =
 same_sums page contents n (s ∷ ss) (i ∷ is) z w = by_first s i (z.each 0 s refl) (w.each 0 i refl) (same_sums page (λ m. contents (suc m)) (length ss) ss is
     (listed_behind (λ m. SpanOf page (contents m)) (length ss) s ss (record { count = refl; each = z.each }))
     (listed_behind (λ m. ImageOf page (contents m)) (length ss) i is (record { count = w.count ∙ sym z.count; each = w.each }))) where
-      by_first : (s : Option Span) (i : Option MemoryImage) → SpanOf page (contents 0) s → ImageOf page (contents 0) i
+      by_first : (s : Option PageSpan) (i : Option MemoryImage) → SpanOf page (contents 0) s → ImageOf page (contents 0) i
           → min (sum_by span_size ss) (2 ^ 32) ≡ min (sum_by length (image_bytes is)) (2 ^ 32)
           → min (sum_by span_size (s ∷ ss)) (2 ^ 32) ≡ min (sum_by length (image_bytes (i ∷ is))) (2 ^ 32)
       by_first None None a b more = let one = sum_by-cons span_size None ss in omega (arith, one, more)
@@ -63,7 +63,7 @@ listed_first R n k ys le h = record {
   first_at : (m : ℕ) (answer : _) → slice_get (take k ys) m ≡ Some answer → m < length (take k ys) → slice_get ys m ≡ Some answer
   first_at m answer at l = grind (arith, h.count, length-take-le k ys, get_or_from_slice_get (take k ys) m answer answer at, get_or-take k ys m answer, slice_get-get_or ys m answer)
 
-module _ (page : ℕ) (contents : ℕ → ℕ → ℕ) (n : ℕ) (spans : List (Option Span)) (listed : AreListed (λ m. SpanOf page (contents m)) n spans) where
+module _ (page : ℕ) (contents : ℕ → ℕ → ℕ) (n : ℕ) (spans : List (Option PageSpan)) (listed : AreListed (λ m. SpanOf page (contents m)) n spans) where
   first_sums : (images : List (Option MemoryImage)) → AreListed (λ m. ImageOf page (contents m)) n images → (k : ℕ) → k ≤ n
       → min (sum_by span_size (take k spans)) (2 ^ 32) ≡ min (sum_by length (image_bytes (take k images))) (2 ^ 32)
   first_sums images are k le = same_sums page contents k (take k spans) (take k images)

@@ -2,7 +2,7 @@
 use Rattle.std.specs.Prelude.{◌≡◌, ◌≢◌, ℕ, ◌+◌, ◌-◌, ◌*◌, ◌/◌, ◌^◌, ◌<◌, ◌≤◌, List, length, slice_index, Option, Some, None, min, max}
 use Rattle.replay_spec.specs.Images.{IsFirst, IsLast}
 use Rattle.memory_images.specs.declared.span.Ends.{Ends}
-use Rattle.memory_images.specs.declared.span.Span.{Span}
+use Rattle.memory_images.specs.declared.span.PageSpan.{PageSpan}
 
 -- the first and the last of some offsets whose byte is not zero
 pub record AreEnds (contents : ℕ → ℕ) (Within : ℕ → Type 0) (ends : Ends) : Type 0 where
@@ -28,21 +28,21 @@ joined (Some a) (Some b) = Some (record { first = min a.first b.first; last = ma
 
 -- whole pages, from the page of the first offset to the end of the last one's; a size past 64 bits
 -- is the greatest number
-pub record ArePages (page : ℕ) (ends : Ends) (span : Span) : Type 0 where
+pub record ArePages (page : ℕ) (ends : Ends) (span : PageSpan) : Type 0 where
   pub full : ℕ
   pub start : span.start ≡ ends.first / page * page
   pub end : span.start + full ≡ (ends.last / page + 1) * page
   pub size : span.size ≡ min full (2 ^ 64 - 1)
 
 -- the pages from the first byte that is not zero to the last
-pub record IsSpan (page : ℕ) (contents : ℕ → ℕ) (span : Span) : Type 0 where
+pub record IsSpan (page : ℕ) (contents : ℕ → ℕ) (span : PageSpan) : Type 0 where
   pub ends : Ends
   pub is_first : IsFirst contents ends.first
   pub is_last : IsLast contents ends.last
   pub pages : ArePages page ends span
 
 -- no span where every byte is zero
-abbrev pub SpanOf : ℕ → (ℕ → ℕ) → Option Span → Type 0
+abbrev pub SpanOf : ℕ → (ℕ → ℕ) → Option PageSpan → Type 0
 SpanOf page contents None = (place : ℕ) → contents place ≡ 0
 SpanOf page contents (Some span) = IsSpan page contents span
 

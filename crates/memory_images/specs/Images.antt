@@ -1,7 +1,7 @@
 -- The images of memories, and how large they are.
 use Rattle.std.specs.Prelude.{◌≡◌, ℕ, List, map, length, slice_get, Option, Some, None}
 use Rattle.std.specs.Option.{option_map}
-use Rattle.memory_images.specs.declared.span.Span.{Span}
+use Rattle.memory_images.specs.declared.span.PageSpan.{PageSpan}
 use Rattle.memory_images.specs.declared.image.Image.{Image}
 use Rattle.replay_spec.specs.Images.{MemoryImage}
 
@@ -11,7 +11,7 @@ image_of image = record { start = image.start; bytes = image.bytes.items }
 abbrev pub images_of : List (Option Image) → List (Option MemoryImage)
 images_of images = map (option_map image_of) images
 
-abbrev pub span_size : Option Span → ℕ
+abbrev pub span_size : Option PageSpan → ℕ
 span_size None = 0
 span_size (Some span) = span.size
 

@@ -5,26 +5,30 @@ ghost use Rattle.replay_spec.specs.Phases.{item_at};
 ghost use Rattle.memory_images.specs.Contents.{contents_of, end_of, piece_of};
 ghost use Rattle.memory_images.specs.Image.{Filled};
 
-use crate::laid::Laid;
-use crate::span::Span;
+use crate::placed_segment::PlacedSegment;
+use crate::span::PageSpan;
 use entity_map::OutOfMemory;
 use std::alloc::Global;
 
 /// The contents of a span, in a list of exactly its length.
-pub(crate) fn filled(alloc: Global, laid: &[Laid<'_>], span: Span) -> Result<Vec<u8>, OutOfMemory>
+pub(crate) fn filled(
+    alloc: Global,
+    laid: &[PlacedSegment<'_>],
+    span: PageSpan,
+) -> Result<Vec<u8>, OutOfMemory>
     requires { All (λ x. end_of x < 2 ^ 64) laid.now }
     ensures len { IfOk result (λ v. length v.items ≡ span.size) }
     ensures bytes { IfOk result (λ v. Filled (contents_of laid.now) span.start v.items) }
 {
     let mut bytes = vec![in alloc; 0; span.size as usize]?;
     'laid: for x in laid {
-        lay(&mut bytes, x, span.start);
+        write_segment(&mut bytes, x, span.start);
     }
     Ok(bytes)
 }
 
 /// Writes the part of a piece that is in the buffer, which begins at `start`.
-fn lay(bytes: &mut Vec<u8>, x: &Laid<'_>, start: u64)
+fn write_segment(bytes: &mut Vec<u8>, x: &PlacedSegment<'_>, start: u64)
     requires { end_of x.now < 2 ^ 64 }
     ensures len { length bytes.new.items ≡ length bytes.old.items }
     ensures bytes { (i : ℕ) → i < length bytes.old.items

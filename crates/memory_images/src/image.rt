@@ -10,8 +10,8 @@ ghost use Rattle.memory_images.specs.Past.{PassesAt};
 
 use crate::error::ImageError;
 use crate::fill::filled;
-use crate::laid::Laid;
-use crate::span::{Span, span_of};
+use crate::placed_segment::PlacedSegment;
+use crate::span::{PageSpan, span_of};
 use entity_map::OutOfMemory;
 use std::alloc::Global;
 
@@ -22,7 +22,7 @@ pub struct Image {
     pub bytes: Vec<u8>,
 }
 
-fn size(span: Option<Span>) -> u64
+fn size(span: Option<PageSpan>) -> u64
     ensures { result ≡ span_size span }
 {
     match span {
@@ -33,8 +33,8 @@ fn size(span: Option<Span>) -> u64
 
 fn make_image(
     alloc: Global,
-    laid: &[Laid<'_>],
-    span: Option<Span>,
+    laid: &[PlacedSegment<'_>],
+    span: Option<PageSpan>,
 ) -> Result<Option<Image>, OutOfMemory>
     requires fits { All (λ x. end_of x < 2 ^ 64) laid.now }
     requires small { span_size span < 2 ^ 64 - 1 }
@@ -55,9 +55,9 @@ fn make_image(
 
 fn spans_of(
     alloc: Global,
-    memories: &[Vec<Laid<'_>>],
+    memories: &[Vec<PlacedSegment<'_>>],
     page: u64,
-) -> Result<Vec<Option<Span>>, OutOfMemory>
+) -> Result<Vec<Option<PageSpan>>, OutOfMemory>
     requires page { 0 < page }
     requires fits { All (λ laid. All (λ x. end_of x < 2 ^ 64) laid.items) memories.now }
     ensures { IfOk result (λ v. AreListed (λ m. SpanOf page (contents_at memories.now m)) (length memories.now) v.items) }
@@ -70,7 +70,7 @@ fn spans_of(
 }
 
 /// The sum of all sizes and `passive`, at most `u64::MAX`.
-fn total(passive: u64, spans: &[Option<Span>]) -> u64
+fn total(passive: u64, spans: &[Option<PageSpan>]) -> u64
     ensures { result ≡ min (passive + sum_by span_size spans.now) (2 ^ 64 - 1) }
 {
     let mut total = passive;
@@ -81,7 +81,7 @@ fn total(passive: u64, spans: &[Option<Span>]) -> u64
 }
 
 /// The first memory with whose span the sizes and `passive` pass 4294967295.
-fn span_past(passive: u64, spans: &[Option<Span>]) -> Option<usize>
+fn span_past(passive: u64, spans: &[Option<PageSpan>]) -> Option<usize>
     requires { passive < 2 ^ 32 }
     ensures bound { IfSome result (λ m. m < length spans.now) }
     ensures before { IfSome result (λ m. passive + sum_by span_size (take m spans.now) < 2 ^ 32) }
@@ -100,8 +100,8 @@ fn span_past(passive: u64, spans: &[Option<Span>]) -> Option<usize>
 
 fn make_all(
     alloc: Global,
-    memories: &[Vec<Laid<'_>>],
-    spans: &[Option<Span>],
+    memories: &[Vec<PlacedSegment<'_>>],
+    spans: &[Option<PageSpan>],
 ) -> Result<Vec<Option<Image>>, OutOfMemory>
     requires fits { All (λ laid. All (λ x. end_of x < 2 ^ 64) laid.items) memories.now }
     requires count { length spans.now ≡ length memories.now }
@@ -120,7 +120,7 @@ fn make_all(
 /// together.
 pub(crate) fn images_of(
     alloc: Global,
-    memories: &[Vec<Laid<'_>>],
+    memories: &[Vec<PlacedSegment<'_>>],
     passive: u64,
     page: u64,
 ) -> Result<Vec<Option<Image>>, ImageError>
@@ -144,7 +144,7 @@ pub(crate) fn images_of(
 /// together. No image is made.
 pub(crate) fn image_past(
     alloc: Global,
-    memories: &[Vec<Laid<'_>>],
+    memories: &[Vec<PlacedSegment<'_>>],
     passive: u64,
     page: u64,
 ) -> Result<Option<usize>, OutOfMemory>

@@ -23,10 +23,10 @@
 mod error;
 mod fill;
 mod image;
-mod laid;
 mod laws;
 mod layout;
 mod place;
+mod placed_segment;
 mod plan;
 mod rule;
 mod settings;

@@ -40,7 +40,7 @@ fn minimum_bytes(memory: Memory) -> Option<u64>
 
 /// The placement of a segment that is in a defined memory, has a constant offset of its index type,
 /// and ends within the memory's minimum size.
-pub(crate) fn place_of(
+pub(crate) fn segment_place(
     imported: usize,
     defined: &[Memory],
     segment: &MemoryInitializer<'_>,

@@ -7,9 +7,9 @@ ghost use Rattle.memory_images.specs.Contents.{end_of, piece_of};
 ghost use Rattle.memory_images.specs.Views.{image_memory, active_segment_of, options_of};
 ghost use Rattle.memory_images.specs.Layout.{AreLaid, MayBeImages, laid_piece};
 
-use crate::laid::Laid;
 use crate::layout::lay_out;
 use crate::place::page_size;
+use crate::placed_segment::PlacedSegment;
 use crate::settings::ImageSettings;
 use entity_map::OutOfMemory;
 use std::alloc::Global;
@@ -17,7 +17,7 @@ use wasm_module::MemoryInitializer;
 use wasm_types::Memory;
 
 // Whether the bytes are close together, or within `max_image`.
-fn is_dense(laid: &[Laid<'_>], max_image: u64) -> bool
+fn is_dense(laid: &[PlacedSegment<'_>], max_image: u64) -> bool
     requires { All (λ x. end_of x < 2 ^ 64) laid.now }
     ensures { (ss : List ActiveSegment) → map piece_of laid.now ≡ map laid_piece ss → IsTrue result ↔ IsDense max_image ss }
 {
@@ -41,7 +41,7 @@ fn is_close(extent: u64, count: u128, max_image: u64) -> bool
 }
 
 // Whether a memory has no bytes, or they may be its image.
-fn may_be_image(laid: &[Laid<'_>], memory: Memory, settings: ImageSettings) -> bool
+fn may_be_image(laid: &[PlacedSegment<'_>], memory: Memory, settings: ImageSettings) -> bool
     requires size { memory.page_size_log2 ≤ 16 }
     requires fits { All (λ x. end_of x < 2 ^ 64) laid.now }
     ensures { (ss : List ActiveSegment) → map piece_of laid.now ≡ map laid_piece ss
@@ -55,7 +55,7 @@ fn may_be_images(
     imported: usize,
     defined: &[Memory],
     segments: &[MemoryInitializer<'_>],
-    all: &[Vec<Laid<'_>>],
+    all: &[Vec<PlacedSegment<'_>>],
     settings: ImageSettings,
 ) -> bool
     requires sizes { All (λ m. m.page_size_log2 ≤ 16) defined.now }
@@ -78,7 +78,7 @@ pub(crate) fn static_layout<'d>(
     imported: usize,
     defined: &[Memory],
     segments: &[MemoryInitializer<'d>],
-) -> Result<Option<Vec<Vec<Laid<'d>>>>, OutOfMemory>
+) -> Result<Option<Vec<Vec<PlacedSegment<'d>>>>, OutOfMemory>
     requires enabled { IsTrue settings.enabled }
     requires sizes { All (λ m. m.page_size_log2 ≤ 16) defined.now }
     requires few { imported + length defined.now < 2 ^ 32 }

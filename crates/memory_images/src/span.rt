@@ -2,11 +2,11 @@
 
 ghost use Rattle.std.specs.Prelude.{◌≡◌, ◌≢◌, ℕ, ◌+◌, ◌^◌, ◌<◌, ◌≤◌, ⊤, length, map, slice_index, unwrap_or, All, IfOk, IfSome, IfNone, IsTrue};
 ghost use Rattle.replay_spec.specs.Phases.{item_at};
-ghost use Rattle.memory_images.specs.Contents.{byte_in, contents_of, end_of, pair_of, piece_of, IsCut, IsOwned, Within};
+ghost use Rattle.memory_images.specs.Contents.{byte_in, contents_of, end_of, pair_of, piece_of, HasContentsOver, IsInPiece, Within};
 ghost use Rattle.memory_images.specs.Image.{ArePages, Bounds, EndsOf, SpanOf, joined};
 ghost use Rattle.memory_images.specs.Ranges.{AreWritten};
 
-use crate::laid::Laid;
+use crate::placed_segment::PlacedSegment;
 use crate::written::{Written, written_ranges};
 use crate::zeros::{without_first_zeros, without_last_zeros};
 use entity_map::OutOfMemory;
@@ -15,7 +15,7 @@ use std::alloc::Global;
 /// Whole pages from `start` on, of `size` bytes, or of at least as many where that is the greatest
 /// number.
 #[derive(Clone, Copy, Debug, PartialEq, Eq)]
-pub struct Span {
+pub struct PageSpan {
     pub start: u64,
     pub size: u64,
 }
@@ -50,21 +50,21 @@ fn last_in(bytes: &[u8]) -> Option<usize>
 }
 
 /// The part of a piece that is in a range.
-fn cut<'d>(laid: &[Laid<'d>], range: Written) -> Laid<'d>
+fn cut<'d>(laid: &[PlacedSegment<'d>], range: Written) -> PlacedSegment<'d>
     requires some { range.start < range.end }
-    requires owned { IsOwned laid.now range }
-    ensures { IsCut laid.now range result }
+    requires owned { IsInPiece laid.now range }
+    ensures { HasContentsOver laid.now range result }
 {
     let whole = laid[range.segment];
     let from = (range.start - whole.start) as usize;
     let to = (range.end - whole.start) as usize;
-    Laid {
+    PlacedSegment {
         start: range.start,
         bytes: &whole.bytes[from..to],
     }
 }
 
-fn ends_in(x: &Laid<'_>) -> Option<Ends>
+fn ends_in(x: &PlacedSegment<'_>) -> Option<Ends>
     requires { end_of x.now < 2 ^ 64 }
     ensures ends { EndsOf (byte_in x.now) (Within x.now) result }
     ensures within { IfSome result (λ ends. Within x.now ends.first × Within x.now ends.last) }
@@ -91,7 +91,7 @@ fn join(a: Option<Ends>, b: Option<Ends>) -> Option<Ends>
 }
 
 /// The ends of all pieces, whether their bytes are overwritten or not.
-fn outer_ends(laid: &[Laid<'_>]) -> Option<Ends>
+fn outer_ends(laid: &[PlacedSegment<'_>]) -> Option<Ends>
     requires { All (λ x. end_of x < 2 ^ 64) laid.now }
     ensures { Bounds (contents_of laid.now) result }
 {
@@ -102,7 +102,7 @@ fn outer_ends(laid: &[Laid<'_>]) -> Option<Ends>
     ends
 }
 
-fn byte_over(x: &Laid<'_>, place: u64, below: u8) -> u8
+fn byte_over(x: &PlacedSegment<'_>, place: u64, below: u8) -> u8
     requires { end_of x.now < 2 ^ 64 }
     ensures { result ≡ unwrap_or (item_at 0 place (piece_of x.now)) below }
 {
@@ -115,7 +115,7 @@ fn byte_over(x: &Laid<'_>, place: u64, below: u8) -> u8
     x.bytes[(place - x.start) as usize]
 }
 
-fn byte_at(laid: &[Laid<'_>], place: u64) -> u8
+fn byte_at(laid: &[PlacedSegment<'_>], place: u64) -> u8
     requires { All (λ x. end_of x < 2 ^ 64) laid.now }
     ensures { result ≡ contents_of laid.now place }
 {
@@ -127,7 +127,7 @@ fn byte_at(laid: &[Laid<'_>], place: u64) -> u8
 }
 
 /// Whether the bytes at the ends of all pieces are in the final contents.
-fn stand(laid: &[Laid<'_>], ends: Option<Ends>) -> bool
+fn stand(laid: &[PlacedSegment<'_>], ends: Option<Ends>) -> bool
     requires fits { All (λ x. end_of x < 2 ^ 64) laid.now }
     requires bounds { Bounds (contents_of laid.now) ends }
     ensures { IsTrue result → EndsOf (contents_of laid.now) (λ _. ⊤) ends }
@@ -139,7 +139,7 @@ fn stand(laid: &[Laid<'_>], ends: Option<Ends>) -> bool
 }
 
 /// The ends of the final contents, by the ranges that the pieces write.
-fn inner_ends(laid: &[Laid<'_>], ranges: &[Written]) -> Option<Ends>
+fn inner_ends(laid: &[PlacedSegment<'_>], ranges: &[Written]) -> Option<Ends>
     requires fits { All (λ x. end_of x < 2 ^ 64) laid.now }
     requires written { AreWritten (map pair_of laid.now) ranges.now }
     ensures { EndsOf (contents_of laid.now) (λ _. ⊤) result }
@@ -152,7 +152,7 @@ fn inner_ends(laid: &[Laid<'_>], ranges: &[Written]) -> Option<Ends>
     ends
 }
 
-fn pairs_of(alloc: Global, laid: &[Laid<'_>]) -> Result<Vec<(u64, u64)>, OutOfMemory>
+fn pairs_of(alloc: Global, laid: &[PlacedSegment<'_>]) -> Result<Vec<(u64, u64)>, OutOfMemory>
     requires { All (λ x. end_of x < 2 ^ 64) laid.now }
     ensures items { IfOk result (λ v. v.items ≡ map pair_of laid.now) }
     ensures fits { IfOk result (λ v. All (λ pair. pair.0 + pair.1 < 2 ^ 64) v.items) }
@@ -166,7 +166,7 @@ fn pairs_of(alloc: Global, laid: &[Laid<'_>]) -> Result<Vec<(u64, u64)>, OutOfMe
 
 /// The first and the last offset whose byte is not zero. Where the ends of all pieces are in the
 /// final contents, no range is made.
-fn ends_of(alloc: Global, laid: &[Laid<'_>]) -> Result<Option<Ends>, OutOfMemory>
+fn ends_of(alloc: Global, laid: &[PlacedSegment<'_>]) -> Result<Option<Ends>, OutOfMemory>
     requires { All (λ x. end_of x < 2 ^ 64) laid.now }
     ensures { IfOk result (EndsOf (contents_of laid.now) (λ _. ⊤)) }
 {
@@ -182,9 +182,9 @@ fn ends_of(alloc: Global, laid: &[Laid<'_>]) -> Result<Option<Ends>, OutOfMemory
 /// The pages from that of the first byte that is not zero to that of the last.
 pub(crate) fn span_of(
     alloc: Global,
-    laid: &[Laid<'_>],
+    laid: &[PlacedSegment<'_>],
     page: u64,
-) -> Result<Option<Span>, OutOfMemory>
+) -> Result<Option<PageSpan>, OutOfMemory>
     requires page { 0 < page }
     requires fits { All (λ x. end_of x < 2 ^ 64) laid.now }
     ensures { IfOk result (SpanOf page (contents_of laid.now)) }
@@ -195,14 +195,14 @@ pub(crate) fn span_of(
     }
 }
 
-fn pages_of(ends: Ends, page: u64) -> Span
+fn pages_of(ends: Ends, page: u64) -> PageSpan
     requires page { 0 < page }
     requires order { ends.first ≤ ends.last }
     ensures { ArePages page ends result }
 {
     let start = ends.first - ends.first % page;
     let last = ends.last - ends.last % page;
-    Span {
+    PageSpan {
         start,
         size: (last - start).saturating_add(page),
     }

@@ -8,11 +8,11 @@ ghost use Rattle.module_customs.specs.DebugSections.{is_debug_section};
 
 use custom_sections::is_debug_name;
 use form_reader::Payload;
-use form_rules::{Single, Source, singles_of};
+use form_rules::{ModuleSource, Single, singles_of};
 
 /// Whether a custom section of a module holds debug information, by its name (core specification,
 /// appendix, custom sections; the names are those of the DWARF sections).
-pub fn has_debug_section(source: Source<'_, '_>) -> bool
+pub fn has_debug_section(source: ModuleSource<'_, '_>) -> bool
     ensures { result ≡ list_any is_debug_section (source_module source.entry) }
 {
     for section in singles_of(source) {

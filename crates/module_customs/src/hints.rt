@@ -12,7 +12,7 @@ ghost use Rattle.module_customs.specs.Names.{at_number};
 use crate::names::contents_named;
 use custom_sections::{Hint, read_hints};
 use entity_map::{EntityRef, OutOfMemory};
-use form_rules::{Single, Source, singles_of};
+use form_rules::{ModuleSource, Single, singles_of};
 use init_plan::BranchHint;
 use std::alloc::Global;
 use std::collections::BTreeMap;
@@ -25,7 +25,7 @@ use wasm_index::FuncIndex;
 /// `OutOfMemory` where the hints find no memory.
 pub fn kept_hints(
     alloc: Global,
-    source: Source<'_, '_>,
+    source: ModuleSource<'_, '_>,
 ) -> Result<BTreeMap<FuncIndex, Vec<BranchHint>>, OutOfMemory>
     ensures { IfOk result (λ kept. HasFirst (module_hints (source_module source.entry)) (at_number number_of kept)) }
 {
@@ -33,7 +33,10 @@ pub fn kept_hints(
 }
 
 /// The entries of the last section of hints that has no fault, and none without one.
-fn last_hints(alloc: Global, source: Source<'_, '_>) -> Result<Vec<(u32, Vec<Hint>)>, OutOfMemory>
+fn last_hints(
+    alloc: Global,
+    source: ModuleSource<'_, '_>,
+) -> Result<Vec<(u32, Vec<Hint>)>, OutOfMemory>
     ensures { IfOk result (λ last. map hint_entry_of last.items ≡ module_hints (source_module source.entry)) }
 {
     let mut last = Vec::new(alloc);

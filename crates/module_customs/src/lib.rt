@@ -4,7 +4,7 @@
 //! fault in such a section ends its names, or drops its hints. No fault refuses a module.
 //!
 //! ```
-//! let source = Source::Form(&form);
+//! let source = ModuleSource::Form(&form);
 //! let names = kept_names(alloc, source, true)?; // true: also names of locals
 //! let hints = kept_hints(alloc, source)?;
 //! let debug = has_debug_section(source);

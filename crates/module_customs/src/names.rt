@@ -13,10 +13,10 @@ ghost use Rattle.custom_sections.specs.NameLists.{NameLists, joined};
 ghost use Rattle.custom_sections.specs.Views.{text_of, locals_of, names_of};
 ghost use Rattle.module_customs.specs.Names.{functions_among, one_if, contents_of, names_in, names_below, below, module_names, at_number, named, names_left, HasLast, HasLocals, KeepsNames};
 
-use custom_sections::{Names, read_names};
+use custom_sections::{SectionNames, read_names};
 use entity_map::{EntityRef, OutOfMemory};
 use form_reader::{DefinedFunction, Import, InputEntries, Payload};
-use form_rules::{Entry, Single, Source, singles_of};
+use form_rules::{FormEntry, ModuleSource, Single, singles_of};
 use init_plan::NameSection;
 use std::alloc::{AllocError, Global};
 use std::collections::BTreeMap;
@@ -31,7 +31,7 @@ use wasm_spec::TypeRef;
 /// `OutOfMemory` where the names find no memory.
 pub fn kept_names<'d>(
     alloc: Global,
-    source: Source<'_, 'd>,
+    source: ModuleSource<'_, 'd>,
     locals: bool,
 ) -> Result<NameSection<'d>, OutOfMemory>
     requires { HasFewEntries (source_module source) }
@@ -126,7 +126,7 @@ fn imported_function(import: &Import<'_>) -> usize
 fn add_names<'d>(
     alloc: Global,
     kept: &mut NameSection<'d>,
-    names: &Names<'d>,
+    names: &SectionNames<'d>,
     declared: usize,
 ) -> Result<(), OutOfMemory>
     requires { declared < u32.MAX }

@@ -10,7 +10,7 @@ use Rattle.std.proofs.lemmas.Simd.{map-map}
 use Rattle.wasm_spec.specs.declared.types.UnpackedIndex.{UnpackedIndex}
 use Rattle.wasm_spec.specs.declared.types.UnpackedIndex.TheVariants.{Module}
 use Rattle.wasm_spec.specs.declared.types.ValType.{ValType}
-use Rattle.wasm_spec.specs.TypeData.{Value, Composite, Func, Group, SubType, value_edges, map_value, value_of}
+use Rattle.wasm_spec.specs.TypeData.{ValueType, Composite, Func, Group, SubType, value_edges, map_value, value_of}
 use Rattle.wasm_spec.specs.Module.{Body}
 use Rattle.wasm_spec.specs.Module as plain
 use Rattle.rule_spec.specs.declared.rules.Rule.TheVariants.{L1, L3}
@@ -27,7 +27,7 @@ use Rattle.wasm_convert.specs.Known.{Known}
 use Rattle.init_plan.specs.declared.debug_info.FunctionMetadata.{FunctionMetadata}
 use Rattle.interned_types.specs.Environment.{LooksUpTypes}
 use Rattle.module_sections.specs.Filling.{module_in, IsGathered}
-use Rattle.module_environ.specs.Metadata.{FunctionData, params_of, KnowsParams, params_to, params_at, params_of_types, function_data, view_function}
+use Rattle.module_environ.specs.Metadata.{ParamsAndLocals, params_of, KnowsParams, params_to, params_at, params_of_types, function_data, view_function}
 use Rattle.interned_types.specs.Types.{look_up_in}
 use Rattle.module_sections.proofs.Agreeing.{known-edges}
 
@@ -68,7 +68,7 @@ module _ (count : ℕ) where
       → All (ValueIsBelow count) (params_of kind)
   unfolding KindIsBelow ValueIsBelow
   params-below bound (Func type) le below =
-      let edges : Value UnpackedIndex → List UnpackedIndex = value_edges (λ i. i) in
+      let edges : ValueType UnpackedIndex → List UnpackedIndex = value_edges (λ i. i) in
       let front = ((All-joined (IsBelow bound) (flat_map edges type.params) (flat_map edges type.results)).0 below).0 in
       (All-parts (IsBelow count) edges type.params).0
       (All-weaker (IsBelow bound) (IsBelow count) (below-more bound le) (flat_map edges type.params) front)
@@ -87,12 +87,12 @@ params-declared m well =
 
 -- of a list that has what the types are looked up to, the entry at the type of a function has its
 -- parameters
-module _ (look : LookUp) (l : rule.Lists) {X : Type 0} (see : X → List (Value Name)) (xs : List X) (listed : map see xs ≡ params_of_types look l)
+module _ (look : LookUp) (l : rule.Lists) {X : Type 0} (see : X → List (ValueType Name)) (xs : List X) (listed : map see xs ≡ params_of_types look l)
     (fs : List ℕ) (f t d : ℕ) (same : fs ≡ l.functions) (lt : f < length fs) (is : t ≡ get_or fs f d) where
   entry : unwrap_or (option_map see (slice_get xs t)) [] ≡ map (map_value look) (params_at l f)
   entry =
       let at : slice_get l.functions f ≡ Some t = cc (slice_get-get_or fs f d lt) in
-      let looked-up : Declared → List (Value Name) = λ d. params_to look d.type in
+      let looked-up : Declared → List (ValueType Name) = λ d. params_to look d.type in
       let same : option_map see (slice_get xs t) ≡ option_map looked-up (slice_get l.types t) =
       cc (slice_get-map see xs t, slice_get-map looked-up l.types t) in
       rw (same, at) (by (slice_get l.types t)) where
@@ -129,10 +129,10 @@ module _ (lists : Lists) (gathered : IsGathered lists) where
       ∙ ap (λ (r : rule.Lists). r.imported_functions + length all.bodies) (sym gathered.lists)
 
   module _ (known : UnpackedIndex → Type 0) (look : LookUp) (looks : LooksUpTypes m known look) where
-    abbrev KnowsValue : Value UnpackedIndex → Type 0
+    abbrev KnowsValue : ValueType UnpackedIndex → Type 0
     KnowsValue v = Known known (value_edges (λ i. i) v)
 
-    known-value : (v : Value UnpackedIndex) → ValueIsBelow count v → KnowsValue v
+    known-value : (v : ValueType UnpackedIndex) → ValueIsBelow count v → KnowsValue v
     unfolding ValueIsBelow
     known-value v below = known-edges known count looks.knows (value_edges (λ i. i) v) below
 
@@ -154,26 +154,26 @@ module _ (lists : Lists) (gathered : IsGathered lists) where
 
     -- ---- what locals are converted to
 
-    abbrev run_of : LookUp → ℕ × ValType → ℕ × Value Name
+    abbrev run_of : LookUp → ℕ × ValType → ℕ × ValueType Name
     run_of to run = (run.0, map_value to (value_of run.1))
 
     -- so the metadata of a function is as the definition has it
     pub metadata : (n f : ℕ) (body : Body) (runs : List (ℕ × ValType)) (z : FunctionMetadata)
         → f ≡ lists.imported_functions + n → runs ≡ body.locals
         → map view_value z.params.value.items ≡ map (map_value (look_up_in m)) (params_at all f)
-        → map {B = ℕ × Value Name} (λ run. (run.0, view_value run.1)) z.locals.items ≡ map (run_of look) runs
+        → map {B = ℕ × ValueType Name} (λ run. (run.0, view_value run.1)) z.locals.items ≡ map (run_of look) runs
         → view_function z ≡ function_data (look_up_in m) all (n, body)
     metadata n f body runs z at listed first second =
         let place : f ≡ all.imported_functions + n = at ∙ ap (λ (r : rule.Lists). r.imported_functions + n) gathered.lists in
         let ps = first ∙ ap (λ (k : ℕ). map (map_value (look_up_in m)) (params_at all k)) place in
-        let ls : map {B = ℕ × Value Name} (λ run. (run.0, view_value run.1)) z.locals.items ≡ map (run_of (look_up_in m)) body.locals =
+        let ls : map {B = ℕ × ValueType Name} (λ run. (run.0, view_value run.1)) z.locals.items ≡ map (run_of (look_up_in m)) body.locals =
         second ∙ (λ i. map (run_of (looks.same i)) (listed i)) in
         λ i. record { params = ps i; locals = ls i }
 
 -- ---- one body more
 
-pub metadata_more : {Z : Type 0} (seen : Z → FunctionData) (made : ℕ × Body → FunctionData) (now after : List Z) (z : Z) (left rest : List Body) (b : Body)
-    (all : List FunctionData) → left ≡ b ∷ rest → seen z ≡ made (length now, b) → after ≡ now ++ z ∷ []
+pub metadata_more : {Z : Type 0} (seen : Z → ParamsAndLocals) (made : ℕ × Body → ParamsAndLocals) (now after : List Z) (z : Z) (left rest : List Body) (b : Body)
+    (all : List ParamsAndLocals) → left ≡ b ∷ rest → seen z ≡ made (length now, b) → after ≡ now ++ z ∷ []
     → map seen now ++ map made (enumerate_from (length now) left) ≡ all → map seen after ++ map made (enumerate_from (length after) rest) ≡ all
 metadata_more seen made now after z left rest b all at is pushed before =
     cc (map_push seen now z, length_push now z, append_assoc (map seen now) (seen z ∷ []) (map made (enumerate_from (length after) rest)))

@@ -36,7 +36,7 @@ use Rattle.module_sections.specs.Entities.{count_of}
 use Rattle.interned_types.specs.Types.{declared, type_index, interned_list, HoldsGroupsAlone}
 use Rattle.module_environ.specs.Translation.{startup_when}
 use Rattle.module_sections.specs.Sections.{HasSections}
-use Rattle.module_environ.specs.Translated.{starts_always, HoldsTypes, startup_index_when}
+use Rattle.module_environ.specs.Translated.{starts_always, HoldsInternedTypes, startup_index_when}
 use Rattle.module_sections.specs.Filling.{LeavesRest}
 use Rattle.module_environ.specs.Forming.{IsFormed, FormCause}
 use Rattle.module_sections.specs.Initialisers.{initialisers, view_initialiser, view_items}
@@ -89,7 +89,7 @@ module _ (m : plain.Module) (validator : ℕ) (groups tagged : Builder) (alone :
   usable = ap (λ (b : Builder). b.is_poisoned) gains ∙ ap (λ (b : Builder). b.is_poisoned) alone
 
   -- where startup is not known to run
-  never-holds : false ≡ starts_always m → HoldsTypes m tagged
+  never-holds : false ≡ starts_always m → HoldsInternedTypes m tagged
   never-holds never = record {
     built = built ∙ ap (interned_list m) never;
     startup = no-startup ∙ ap (startup_index_when m) never;
@@ -105,7 +105,7 @@ module _ (m : plain.Module) (validator : ℕ) (groups tagged : Builder) (alone :
     after-is : after ≡ starts_by tagged None
     after-is = gained ∙ tagged-starts
 
-    always-holds : HoldsTypes m after
+    always-holds : HoldsInternedTypes m after
     always-holds = record {
       built = ap (λ (b : Builder). b.built) after-is ∙ ap (λ (b : Built). built_startup b true) built ∙ ap (interned_list m) always;
       startup = ap (λ (b : Builder). b.startup) after-is ∙ ap (λ (b : Built). Some (length b.types)) built ∙ ap (startup_index_when m) always;
@@ -147,7 +147,7 @@ module _ (tunables : Tunables) (validator : ℕ) (m : plain.Module) (old filled 
     private_parts = record filled.private_parts { types = set.private_parts.types };
   }
 
-  whole : (s : ModuleStartup) (b : BuilderState) → s ≡ startup_when m (starts_always m) → HoldsTypes m (builder_view b)
+  whole : (s : ModuleStartup) (b : BuilderState) → s ≡ startup_when m (starts_always m) → HoldsInternedTypes m (builder_view b)
       → IsFormed tunables validator m old (laid s) b
   whole s b is holds = record {
     keeps = keeps;
@@ -186,7 +186,7 @@ module _ (tunables : Tunables) (validator : ℕ) (m : plain.Module) (old filled 
         let never : false ≡ starts_always m = ap not is ∙ runs in
         subst (λ (t : ModuleTranslation). IsFormed tunables validator m old t b) (sym same)
         (whole filled.module.startup b (rest.startup ∙ none ∙ ap (startup_when m) never)
-        (subst (HoldsTypes m) (sym shows) (never-holds m validator groups tagged alone gains built few never)))
+        (subst (HoldsInternedTypes m) (sym shows) (never-holds m validator groups tagged alone gains built few never)))
 
     -- startup is known to run
     pub formed-always : false ≡ nothing → (u : ModuleTranslation) (b : BuilderState)

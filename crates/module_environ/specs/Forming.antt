@@ -14,7 +14,7 @@ use Rattle.module_sections.specs.Entities.{count_of}
 use Rattle.module_environ.specs.Pooled.{pool_of}
 use Rattle.module_environ.specs.Translation.{startup_when, HasTypes}
 use Rattle.module_sections.specs.Sections.{HasSections}
-use Rattle.module_environ.specs.Translated.{starts_always, HoldsTypes}
+use Rattle.module_environ.specs.Translated.{starts_always, HoldsInternedTypes}
 
 -- all of a translation except its bytes and its code
 pub record IsFormed (tunables : Tunables) (validator : ℕ) (m : plain.Module) (old new : ModuleTranslation) (b : BuilderState) : Type 0 where
@@ -25,7 +25,7 @@ pub record IsFormed (tunables : Tunables) (validator : ℕ) (m : plain.Module) (
   pub strings : new.module.strings ≡ pool_of tunables.debug_native m
   pub imports : new.debuginfo.wasm_file.imported_func_count ≡ count_of function_import (plain.imports m)
   pub startup : new.module.startup ≡ startup_when m (starts_always m)
-  pub builder : HoldsTypes m (builder_view b)
+  pub builder : HoldsInternedTypes m (builder_view b)
   pub index : new.module.module_index ≡ old.module.module_index
   pub offset : new.wasm_module_offset ≡ old.wasm_module_offset
 

@@ -29,7 +29,7 @@ startup_index_when m true = Some (length (interned_list m false).types)
 
 -- the builder holds the interned types of the module, with a startup type where startup is known to
 -- run, and is not poisoned
-pub record HoldsTypes (m : plain.Module) (b : Builder) : Type 0 where
+pub record HoldsInternedTypes (m : plain.Module) (b : Builder) : Type 0 where
   pub built : b.built ≡ interned_list m (starts_always m)
   pub startup : b.startup ≡ startup_index_when m (starts_always m)
   pub sound : b.is_poisoned ≡ false
@@ -52,4 +52,4 @@ pub record IsTranslated (tunables : Tunables) (module_index : Index StaticModule
   pub keeps : Keeps meaning
   pub translation : IsTranslation tunables module_index validator bytes meaning t
   pub ready : IsReady meaning t
-  pub types : HoldsTypes meaning (builder_view b)
+  pub types : HoldsInternedTypes meaning (builder_view b)

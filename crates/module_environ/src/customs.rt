@@ -17,7 +17,7 @@ ghost use Rattle.module_sections.specs.Pooled.{with_texts, HasText};
 
 use crate::metadata::function_metadata;
 use entity_map::{Atom, OutOfMemory, StringPool};
-use form_rules::{Lists, Source};
+use form_rules::{Lists, ModuleSource};
 use init_plan::{BranchHint, ModuleTranslation, NameSection};
 use module_customs::{has_debug_section, kept_hints, kept_names};
 use std::alloc::Global;
@@ -90,7 +90,7 @@ fn asked_names(names: NameSection<'_>, native: bool) -> NameSection<'_>
 /// The hints of branches by their functions, where the caller requires them.
 fn asked_hints(
     alloc: Global,
-    source: Source<'_, '_>,
+    source: ModuleSource<'_, '_>,
     asked: bool,
 ) -> Result<BTreeMap<FuncIndex, Vec<BranchHint>>, OutOfMemory>
     ensures { IfOk result (λ kept. HasFirst (hints_asked asked (source_module source.entry)) (at_number number_of kept)) }

@@ -1,7 +1,7 @@
 //! The metadata of the functions that a module defines.
 
 ghost use Rattle.std.specs.Prelude.{◌≡◌, ℕ, ◌<◌, ◌++◌, length, map, All, IfOk, OnOk};
-ghost use Rattle.wasm_spec.specs.TypeData.{Value, value_edges, map_value, value_of};
+ghost use Rattle.wasm_spec.specs.TypeData.{ValueType, value_edges, map_value, value_of};
 ghost use Rattle.rule_spec.specs.Lists.{lists_of_module};
 ghost use Rattle.form_reader.specs.Views.{composite_of, group_of};
 ghost use Rattle.wasm_types.specs.ValueViews.{Name, value_of as view_value};
@@ -151,7 +151,7 @@ fn convert_locals(
     locals: &[(u32, ValType)],
 ) -> Result<Vec<(u32, WasmValType)>, OutOfMemory>
     requires { All (λ run. Known (knows env.now) (value_edges (λ i. i) (value_of run.1))) locals.now }
-    ensures { IfOk result (λ converted. map {B = ℕ × Value Name} (λ run. (run.0, view_value run.1)) converted.items
+    ensures { IfOk result (λ converted. map {B = ℕ × ValueType Name} (λ run. (run.0, view_value run.1)) converted.items
         ≡ map (λ run. (run.0, map_value (look_up env.now) (value_of run.1))) locals.now) }
 {
     // The borrow checker wants the types on the way to an index by name.

@@ -35,7 +35,7 @@ use crate::error::EnvironError;
 use crate::types::intern_types;
 use entity_map::{OutOfMemory, PrimaryMap, StringPool};
 use form_reader::read_input;
-use form_rules::{Lists, Source, checked_lists};
+use form_rules::{Lists, ModuleSource, checked_lists};
 use form_types::{Numbering, Types, Validator};
 use init_plan::ModuleTranslation;
 use interned_types::{convert_tags, declared_types};
@@ -121,7 +121,7 @@ fn translation_of<'d>(
         tunables,
         validator,
         types,
-        Source::Input(&form),
+        ModuleSource::Input(&form),
         numbering,
         &mut translation,
     ) {
@@ -150,7 +150,7 @@ fn translate_form<'d>(
     tunables: &Tunables,
     validator: &Validator,
     types: &mut ModuleTypesBuilder,
-    source: Source<'_, 'd>,
+    source: ModuleSource<'_, 'd>,
     numbering: Numbering,
     translation: &mut ModuleTranslation<'d>,
 ) -> Result<(), EnvironError>

@@ -21,7 +21,7 @@ use Rattle.replay_spec.specs.Elements.{items_by, active_by}
 use Rattle.replay_spec.specs.Startup.{is_passive, passive_elements}
 use Rattle.module_sections.specs.declared.elements.ElementSegments.{ElementSegments}
 use Rattle.module_sections.specs.Initialisers.{type_in, active_items, passive_items, view_items, view_segment, passive_numbers}
-use Rattle.module_sections.specs.Segments.{HoldsElements, HasRoom}
+use Rattle.module_sections.specs.Segments.{HoldsElements, HasRoomForSegments}
 
 -- ---- numbers among the passive ones
 
@@ -151,7 +151,7 @@ module _ (look : LookUp) (before : List Element) (e : Element) (old : ElementSeg
 
 module _ (look : LookUp) where
   -- so lists are short
-  pub room-counts : (a : ElementSegments) → HasRoom look a 1
+  pub room-counts : (a : ElementSegments) → HasRoomForSegments look a 1
       → (a.count < 4294967295) × (length a.kinds < 4294967294) × (length a.passive < 4294967294)
   room-counts a room =
       let passive = counted look room.0 a room.1 in

@@ -13,7 +13,7 @@ use Rattle.wasm_types.specs.declared.entity.EntityIndex.TheVariants as entity
 use Rattle.wasm_module.specs.declared.initializer.Initializer.{Initializer}
 use Rattle.module_sections.specs.declared.imports.ImportCounts.{ImportCounts}
 use Rattle.module_sections.specs.Entities.{NamedEntity, count_of, brought, imports_after, resolved_import}
-use Rattle.module_sections.specs.Imported.{AreCounted, HaveIndices, AreImported, one_if, counted, next_entity}
+use Rattle.module_sections.specs.Imported.{AreCounted, HaveIndices, BecomeInitializers, one_if, counted, next_entity}
 use Rattle.form_rules.specs.Names.{import_names}
 use Rattle.module_sections.specs.Pooled.{with_texts, HasTexts}
 use Rattle.module_sections.proofs.Filling.{length-filter_map}
@@ -69,7 +69,7 @@ imports_after-push before (j ∷ is) i =
 
 pub imported-push : (was : List (List ℕ)) (is : List Import) (i : Import) (old new : List (List ℕ)) (before : List Initializer) (one : Initializer) (c : ImportCounts)
     → new ≡ with_texts old (import_names i) → HasTexts new one → resolved_import new one ≡ (i.space, i.name, next_entity c i.type)
-    → AreImported was is old before c → AreImported was (is ++ i ∷ []) new (before ++ one ∷ []) (counted c i.type)
+    → BecomeInitializers was is old before c → BecomeInitializers was (is ++ i ∷ []) new (before ++ one ∷ []) (counted c i.type)
 imported-push was is i old new before one c put pooled resolved h =
     let grows : GrowsBy 2 old new = grows-within 2 (import_names i) old new put (omega arith) in
     record {
@@ -87,13 +87,13 @@ imported-push was is i old new before one c put pooled resolved h =
 -- one import more, converted
 pub imported-step : (was : List (List ℕ)) (is : List Import) (i : Import) (old new : List (List ℕ)) (now after : List Initializer) (one : Initializer) (c d : ImportCounts)
     → d ≡ counted c i.type → new ≡ with_texts old (import_names i) → HasTexts new one → resolved_import new one ≡ (i.space, i.name, next_entity c i.type)
-    → after ≡ now ++ one ∷ [] → AreImported was is old now c → AreImported was (is ++ i ∷ []) new after d
+    → after ≡ now ++ one ∷ [] → BecomeInitializers was is old now c → BecomeInitializers was (is ++ i ∷ []) new after d
 imported-step was is i old new now after one c d counts put pooled resolved pushed h =
-    subst (λ (x : ImportCounts). AreImported was (is ++ i ∷ []) new after x) (sym counts)
-    (subst (λ (xs : List Initializer). AreImported was (is ++ i ∷ []) new xs (counted c i.type)) (sym pushed)
+    subst (λ (x : ImportCounts). BecomeInitializers was (is ++ i ∷ []) new after x) (sym counts)
+    (subst (λ (xs : List Initializer). BecomeInitializers was (is ++ i ∷ []) new xs (counted c i.type)) (sym pushed)
     (imported-push was is i old new now one c put pooled resolved h))
 
 -- there is capacity for the names of few imports
 pub room-for-imports : (was : List (List ℕ)) (is : List Import) (texts : List (List ℕ)) (before : List Initializer) (c : ImportCounts)
-    → AreImported was is texts before c → length was < 2 ^ 30 → length is < 2 ^ 30 → length texts < 4294967293
+    → BecomeInitializers was is texts before c → length was < 2 ^ 30 → length is < 2 ^ 30 → length texts < 4294967293
 room-for-imports was is texts before c h short few = omega (arith, short, few, imports-pooled was is texts h.pool)

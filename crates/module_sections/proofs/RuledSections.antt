@@ -25,7 +25,7 @@ use Rattle.rule_spec.specs.Expressions.{AreExpressionsTyped, address_class, HasT
 use Rattle.rule_spec.specs.Typing.{HasClass}
 use Rattle.module_sections.specs.Convertible.{IsConvertible}
 use Rattle.module_sections.specs.Escapes.{exported_function}
-use Rattle.module_sections.specs.Exported.{CanExport}
+use Rattle.module_sections.specs.Exported.{HasExportableIndex}
 use Rattle.module_sections.specs.Segments.{IsOffset, IsDataConvertible, AreDataConvertible, IsKindConvertible, AreItemsConvertible, AreElementsConvertible}
 use Rattle.interned_types.proofs.DeclaredKinds.{types-long}
 use Rattle.module_sections.proofs.FromRules.{heap-known, convertible}
@@ -146,7 +146,7 @@ module _ (m : plain.Module) (keeps : Keeps m) (few : HasFewEntries m) (known : U
   export-in-range kind.Global index lt = (omega (arith, lt, few.globals), tt)
   export-in-range kind.Tag index lt = (omega (arith, lt, few.tags), tt)
 
-  pub exports-in-range : All (CanExport functions) l.exports
+  pub exports-in-range : All (HasExportableIndex functions) l.exports
   exports-in-range k d lt =
       let e = get_or l.exports k d in
       let r = export-in-range e.kind e.index ((keeps L7).in_space k d lt) in

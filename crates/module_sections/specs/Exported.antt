@@ -13,7 +13,7 @@ abbrev pub exported_functions : List Export → List ℕ
 exported_functions exports = filter_map (λ (e : Export). exported_function e.kind e.index) exports
 
 -- its index is not the reserved one, and that of a function is below the number of functions
-pub record CanExport (functions : ℕ) (e : Export) : Type 0 where
+pub record HasExportableIndex (functions : ℕ) (e : Export) : Type 0 where
   pub index : e.index < reserved_number
   pub function : IfSome (exported_function e.kind e.index) (λ f. f < functions)
 

@@ -55,7 +55,7 @@ next_entity c (imported.Global type) = entity.Global (index_of c.globals)
 next_entity c (imported.Tag type) = entity.Tag (index_of c.tags)
 
 -- what these imports became: their names are in the pool, after the earlier ones
-pub record AreImported (was : List (List ℕ)) (is : List Import) (texts : List (List ℕ)) (initializers : List Initializer) (counts : ImportCounts) : Type 0 where
+pub record BecomeInitializers (was : List (List ℕ)) (is : List Import) (texts : List (List ℕ)) (initializers : List Initializer) (counts : ImportCounts) : Type 0 where
   pub entities : map (resolved_import texts) initializers ≡ imports_after [] is
   pub pooled : All (HasTexts texts) initializers
   pub counted : AreCounted is counts

@@ -61,5 +61,5 @@ abbrev pub AddsElements : LookUp → ElementSegments → ElementSegments → Lis
 AddsElements look old new elements = (before : List Element) → HoldsElements look before old → HoldsElements look (before ++ elements) new
 
 -- more segments can be held, with fewer than 2 ^ 30 in all
-abbrev pub HasRoom : LookUp → ElementSegments → ℕ → Type 0
-HasRoom look s more = (before : List Element) × HoldsElements look before s × (length before + more < 2 ^ 30)
+abbrev pub HasRoomForSegments : LookUp → ElementSegments → ℕ → Type 0
+HasRoomForSegments look s more = (before : List Element) × HoldsElements look before s × (length before + more < 2 ^ 30)

@@ -15,7 +15,7 @@ ghost use Rattle.module_sections.specs.Segments.{AreDataConvertible, IsDataConve
 use crate::offsets::convert_offset;
 use entity_map::{EntityRef, OutOfMemory};
 use form_reader::{DataKind, DataSegment};
-use form_rules::{Source, walk_of};
+use form_rules::{ModuleSource, walk_of};
 use init_plan::{MemoryInit, MemoryInitializer, ModuleTranslation};
 use std::alloc::Global;
 use wasm_convert::TypeConvert;
@@ -25,7 +25,7 @@ use wasm_index::{DataIndex, MemoryIndex};
 pub(crate) fn add_segments<'d>(
     alloc: Global,
     env: &dyn TypeConvert,
-    source: Source<'_, 'd>,
+    source: ModuleSource<'_, 'd>,
     translation: &mut ModuleTranslation<'d>,
 ) -> Result<(), OutOfMemory>
     requires few { HasFewEntries (source_module source) }

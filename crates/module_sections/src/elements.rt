@@ -12,14 +12,14 @@ ghost use Rattle.wasm_convert.specs.Conversion.{LookUp};
 ghost use Rattle.wasm_module.specs.Elements.{element_type, element_count};
 ghost use Rattle.module_sections.specs.Escapes.{item_functions};
 ghost use Rattle.module_sections.specs.EscapeLog.{after_escapes};
-ghost use Rattle.module_sections.specs.Segments.{IsElementConvertible, AreElementsConvertible, HoldsElements, HasRoom, AddsElements};
+ghost use Rattle.module_sections.specs.Segments.{IsElementConvertible, AreElementsConvertible, HoldsElements, HasRoomForSegments, AddsElements};
 
 use crate::element_items::convert_items;
 use crate::escapes::Escaping;
 use crate::offsets::convert_offset;
 use entity_map::{EntityRef, OutOfMemory, PrimaryMap, SecondaryMap};
 use form_reader::{Element, ElementKind};
-use form_rules::{Source, walk_of};
+use form_rules::{ModuleSource, walk_of};
 use std::alloc::Global;
 use wasm_convert::TypeConvert;
 use wasm_index::{ElemIndex, PassiveElemIndex, TableIndex};
@@ -46,7 +46,7 @@ pub(crate) struct ElementSegments {
 pub(crate) fn convert_elements(
     alloc: Global,
     env: &dyn TypeConvert,
-    source: Source<'_, '_>,
+    source: ModuleSource<'_, '_>,
     escaping: &mut Escaping,
 ) -> Result<ElementSegments, OutOfMemory>
     requires few { HasFewEntries (source_module source) }
@@ -83,7 +83,7 @@ impl ElementSegments {
         element: &Element,
         escaping: &mut Escaping,
     ) -> Result<(), OutOfMemory>
-        requires room { HasRoom (look_up env.now) self.old 1 }
+        requires room { HasRoomForSegments (look_up env.now) self.old 1 }
         requires convertible { IsElementConvertible (knows env.now) escaping.old.count (element_of element.now) }
         ensures added { OnOk result (AddsElements (look_up env.now) self.old self.new (element_of element.now ∷ [])) }
         ensures noted { OnOk result (escaping.new ≡ after_escapes escaping.old (item_functions (element_of element.now).items)) }

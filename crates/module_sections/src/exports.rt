@@ -8,14 +8,14 @@ ghost use Rattle.form_reader.specs.Views.{export_of};
 ghost use Rattle.form_rules.specs.Source.{source_module};
 ghost use Rattle.form_rules.specs.Names.{exported_names};
 ghost use Rattle.module_sections.specs.Entities.{entity_at, exported_entities, resolved_export};
-ghost use Rattle.module_sections.specs.Exported.{CanExport, entered, exported_functions};
+ghost use Rattle.module_sections.specs.Exported.{HasExportableIndex, entered, exported_functions};
 ghost use Rattle.module_sections.specs.EscapeLog.{after_escapes};
 ghost use Rattle.module_sections.specs.Pooled.{HasText};
 
 use crate::escapes::Escaping;
 use entity_map::{Atom, EntityRef, OutOfMemory, StringPool};
 use form_reader::Export;
-use form_rules::{Source, count_entries, entries_of};
+use form_rules::{ModuleSource, count_entries, entries_of};
 use indexmap::IndexMap;
 use std::alloc::Global;
 use wasm_index::{FuncIndex, GlobalIndex, MemoryIndex, TableIndex, TagIndex};
@@ -26,13 +26,13 @@ use wasm_types::EntityIndex;
 /// the pool.
 pub(crate) fn convert_exports(
     alloc: Global,
-    source: Source<'_, '_>,
+    source: ModuleSource<'_, '_>,
     strings: &StringPool,
     escaping: &mut Escaping,
 ) -> Result<IndexMap<Atom, EntityIndex>, OutOfMemory>
     requires few { HasFewEntries (source_module source) }
     requires names { (others : List (List ℕ)) × (strings.now ≡ exported_names (flat_map exports_of_section (source_module source)) ++ others) }
-    requires in_range { All (CanExport escaping.old.count) (flat_map exports_of_section (source_module source)) }
+    requires in_range { All (HasExportableIndex escaping.old.count) (flat_map exports_of_section (source_module source)) }
     ensures exports { IfOk result (λ es. map (resolved_export strings.now) es.entries
         ≡ exported_entities (flat_map exports_of_section (source_module source.entry))) }
     ensures noted { OnOk result (escaping.new
@@ -81,7 +81,7 @@ fn exported_entity(export: &Export<'_>) -> EntityIndex
 
 /// Records what is exported, where it is a function.
 fn note_function(escaping: &mut Escaping, export: &Export<'_>) -> Result<(), OutOfMemory>
-    requires { CanExport escaping.old.count (export_of export.now) }
+    requires { HasExportableIndex escaping.old.count (export_of export.now) }
     ensures { OnOk result (escaping.new ≡ after_escapes escaping.old (exported_functions (export_of export.now ∷ []))) }
 {
     match export.kind {

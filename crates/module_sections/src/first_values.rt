@@ -16,7 +16,7 @@ use crate::escapes::Escaping;
 use crate::expressions::convert_expression;
 use entity_map::{OutOfMemory, PrimaryMap};
 use form_reader::TableDef;
-use form_rules::{Source, entries_of};
+use form_rules::{ModuleSource, entries_of};
 use std::alloc::Global;
 use wasm_convert::TypeConvert;
 use wasm_index::{DefinedTableIndex, FuncIndex};
@@ -26,7 +26,7 @@ use wasm_module::TableInitialValue;
 pub(crate) fn first_values(
     alloc: Global,
     env: &dyn TypeConvert,
-    source: Source<'_, '_>,
+    source: ModuleSource<'_, '_>,
     escaping: &mut Escaping,
 ) -> Result<PrimaryMap<DefinedTableIndex, TableInitialValue>, OutOfMemory>
     requires convertible { All (λ t. IfSome t.init (IsConvertible (knows env.now) escaping.old.count))

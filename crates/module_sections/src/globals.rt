@@ -15,7 +15,7 @@ use crate::escapes::Escaping;
 use crate::expressions::convert_expression;
 use entity_map::{EntityRef, OutOfMemory};
 use form_reader::GlobalDef;
-use form_rules::{Source, walk_of};
+use form_rules::{ModuleSource, walk_of};
 use std::alloc::Global;
 use wasm_convert::{ConstExpr, GlobalConstValue, TypeConvert};
 use wasm_index::DefinedGlobalIndex;
@@ -34,7 +34,7 @@ pub(crate) struct FirstGlobals {
 pub(crate) fn first_globals(
     alloc: Global,
     env: &dyn TypeConvert,
-    source: Source<'_, '_>,
+    source: ModuleSource<'_, '_>,
     escaping: &mut Escaping,
 ) -> Result<FirstGlobals, OutOfMemory>
     requires convertible { All (λ g. IsConvertible (knows env.now) escaping.old.count g.init) (flat_map globals_of_section (source_module source)) }

@@ -13,7 +13,7 @@ ghost use Rattle.module_sections.specs.Pooled.{with_texts, HasTexts};
 
 use entity_map::{EntityRef, OutOfMemory, StringPool};
 use form_reader::Import;
-use form_rules::{Source, entries_of};
+use form_rules::{ModuleSource, entries_of};
 use std::alloc::Global;
 use wasm_index::Index;
 use wasm_module::Initializer;
@@ -74,7 +74,7 @@ fn take_next<Space>(count: &mut u32) -> Index<Space>
 /// What is imported, in order; the names are added to the pool.
 pub(crate) fn convert_imports(
     alloc: Global,
-    source: Source<'_, '_>,
+    source: ModuleSource<'_, '_>,
     strings: &mut StringPool,
 ) -> Result<(Vec<Initializer>, ImportCounts), OutOfMemory>
     requires few { HasFewEntries (source_module source) }

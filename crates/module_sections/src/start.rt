@@ -9,11 +9,11 @@ ghost use Rattle.wasm_index.specs.Index.{number_of};
 
 use entity_map::EntityRef;
 use form_reader::Payload;
-use form_rules::{Section, Source, sections_of};
+use form_rules::{ModuleSource, Section, sections_of};
 use wasm_index::FuncIndex;
 
 /// The start function of a module that has one (core specification, 2.5, start function).
-pub(crate) fn start_function(source: Source<'_, '_>) -> Option<FuncIndex>
+pub(crate) fn start_function(source: ModuleSource<'_, '_>) -> Option<FuncIndex>
     requires { All (λ f. f < u32.MAX) (flat_map starts_of_section (source_module source)) }
     ensures { option_map number_of result ≡ slice_get (flat_map starts_of_section (source_module source.entry)) 0 }
 {

@@ -8,7 +8,7 @@ use Rattle.wasm_spec.specs.declared.types.UnpackedIndex.{UnpackedIndex}
 use Rattle.wasm_spec.specs.declared.types.UnpackedIndex.TheVariants as index
 use Rattle.wasm_spec.specs.TypeData.{group_edges}
 use Rattle.type_spec.specs.Interned.{Interned}
-use Rattle.form_types.specs.Types.{NamedGroup, TypesData, types_by_id, group_numbers, IsIdBelow, IsSound}
+use Rattle.form_types.specs.Types.{NamedGroup, TypesData, types_by_id, group_numbers, IsIdBelow, TypesAreSound}
 use Rattle.form_types.specs.Numbered.{first_id}
 use Rattle.module_types.specs.Builder.{Builder, new_builder, interns_by, interns}
 use Rattle.module_types.specs.Conversion.{id_number, group_of_id, members_of, interned_members, NamesInterned, HoldsGroups}
@@ -51,10 +51,10 @@ module _ (t : TypesData) (b : Builder) (k : ℕ) where
   abbrev ts : List Interned
   ts = interned_members t b k
 
-  members-few : IsSound t → length ts ≤ 1073741823
+  members-few : TypesAreSound t → length ts ≤ 1073741823
   members-few sound = omega (arith, members-long t b k, group-ends t.groups k, sound.few)
 
-  names : IsSound t → ((m : ℕ) → m < k → IsSome (b.ids m)) → NamesInterned t b k
+  names : TypesAreSound t → ((m : ℕ) → m < k → IsSome (b.ids m)) → NamesInterned t b k
   names sound first =
       All-weaker (IsIdBelow (0 + (first_id t.groups k + length (members_of t k)))) (λ i. (group_of_id t (id_number i) ≡ k) ⊎ IsSome (b.ids (group_of_id t (id_number i))))
       each (group_edges (λ r. r) (members_of t k)) (names-earlier 0 t.groups k sound.references) where
@@ -122,7 +122,7 @@ module _ (t : TypesData) (b : Builder) (k : ℕ) where
   next-room next lt = let h = next-later next in omega (arith, h.few, lt)
 
 -- a new builder holds none
-pub none-first : (t : TypesData) (validator : ℕ) → IsSound t → HoldsFirst t (new_builder validator) 0
+pub none-first : (t : TypesData) (validator : ℕ) → TypesAreSound t → HoldsFirst t (new_builder validator) 0
 none-first t validator sound = record {
   sound = sound;
   holds = λ k j e. absurd cc;

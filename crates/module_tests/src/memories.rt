@@ -7,7 +7,7 @@ use std::test::Fail;
 
 const IMAGE: [u8; 8] = [1, 2, 3, 4, 5, 6, 7, 8];
 
-struct Row {
+struct WriteRow {
     at: u64,
     bytes: &'static [u8],
     wanted: [u8; 14],
@@ -15,38 +15,38 @@ struct Row {
 }
 
 // Each row is written to a memory of pages of four bytes, whose second and third page are borrowed.
-const ROWS: [Row; 6] = [
-    Row {
+const ROWS: [WriteRow; 6] = [
+    WriteRow {
         at: 5,
         bytes: &[],
         wanted: [0, 0, 0, 0, 1, 2, 3, 4, 5, 6, 7, 8, 0, 0],
         shared: 2,
     },
-    Row {
+    WriteRow {
         at: 0,
         bytes: &[9],
         wanted: [9, 0, 0, 0, 1, 2, 3, 4, 5, 6, 7, 8, 0, 0],
         shared: 2,
     },
-    Row {
+    WriteRow {
         at: 5,
         bytes: &[9],
         wanted: [0, 0, 0, 0, 1, 9, 3, 4, 5, 6, 7, 8, 0, 0],
         shared: 1,
     },
-    Row {
+    WriteRow {
         at: 3,
         bytes: &[9, 9],
         wanted: [0, 0, 0, 9, 9, 2, 3, 4, 5, 6, 7, 8, 0, 0],
         shared: 1,
     },
-    Row {
+    WriteRow {
         at: 7,
         bytes: &[9, 9],
         wanted: [0, 0, 0, 0, 1, 2, 3, 9, 9, 6, 7, 8, 0, 0],
         shared: 0,
     },
-    Row {
+    WriteRow {
         at: 11,
         bytes: &[9, 9, 9],
         wanted: [0, 0, 0, 0, 1, 2, 3, 4, 5, 6, 7, 9, 9, 9],

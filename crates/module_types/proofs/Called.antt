@@ -8,7 +8,7 @@ use Rattle.std.proofs.lemmas.Bool.{cases_lt, cases_eq}
 use Rattle.std.proofs.lemmas.List.{length-append, length-replicate, get_or-replicate, get_or_past, length-set, length_push, get_or-set_same, get_or_push, append_assoc, append-nil, get_or_append_left, get_or-append_right, get_or-set_other, set-append_left, set_at}
 use Rattle.wasm_spec.specs.TypeData.{Group, Composite, Func}
 use Rattle.type_spec.specs.Names.{Named}
-use Rattle.type_spec.specs.Interned.{Interned, Called, Built, mapped, same_mapped, plain, alone, knows, with_trampoline, assign_at, assign_trampoline, assign_trampolines, composite_at, opened, with_group, exception_for, startup_type, taken, interned, Span, now_known, next_span}
+use Rattle.type_spec.specs.Interned.{Interned, Called, Built, mapped, same_mapped, plain, alone, knows, with_trampoline, assign_at, assign_trampoline, assign_trampolines, composite_at, opened, with_group, exception_for, startup_type, taken, interned, GroupSpan, now_known, next_span}
 use Rattle.wasm_index.specs.Index.{number_of}
 use Rattle.module_types.specs.Views.{TypeIndex}
 use Rattle.module_types.specs.TypeList.{trampoline_at}
@@ -36,7 +36,7 @@ func-same f g c x y = let e : Func f ≡ Func g = sym x ∙ y in cc
 
 module _ (b : Built) (tied : IsTied b) where
   -- types after the others, which have no trampolines
-  tied-more : (ts : List Interned) (groups : List Span)
+  tied-more : (ts : List Interned) (groups : List GroupSpan)
       → IsTied (record b { types = b.types ++ ts; groups = groups; trampolines = b.trampolines ++ replicate (length ts) None })
   tied-more ts groups = record {
     sized = grind (arith, length-append, length-replicate);

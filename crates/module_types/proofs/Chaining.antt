@@ -11,7 +11,7 @@ use Rattle.std.proofs.lemmas.List.{length-append, reverse-append, take_all, take
 use Rattle.wasm_types.specs.declared.func.WasmFuncType.{WasmFuncType}
 use Rattle.wasm_types.specs.contracts.equal.WasmFuncTypePartialEq.TheImpl as func
 use Rattle.module_types.proofs.Keys.{equal}
-use Rattle.module_types.specs.MappedTypes.{MappedKey, known_in, entry_of, Leads, AreChained, mapped_key_of, mapped_keys, mapped_at, digest_of, newest_of, no_function, IsLinked, IsNoted}
+use Rattle.module_types.specs.MappedTypes.{MappedKey, known_in, entry_of, Leads, AreChained, mapped_key_of, mapped_keys, mapped_at, digest_of, newest_of, no_function, AreFoundByDigest, IsNoted}
 use Rattle.entity_map.proofs.PoolLemmas.{slice_get-append_end}
 use Rattle.wasm_index.specs.Index.{number_of}
 use Rattle.wasm_types.specs.declared.sub.WasmSubType.{WasmSubType}
@@ -169,16 +169,16 @@ module _ (types more : List WasmSubType) where
   mapped_keys-within (m ∷ ms) stand =
       λ i. record { key = unwrap_or (read-within types more m.ty (stand 0 m refl) i) no_function; ty = m.ty; before = m.before } ∷ mapped_keys-within ms (λ k t. stand (suc k) t) i
 
-  module _ (m : MappedTypes) (linked : IsLinked types m) where
+  module _ (m : MappedTypes) (linked : AreFoundByDigest types m) where
     pub known-on : mapped_at (types ++ more) m ≡ mapped_at types m
     known-on = ap known_in (mapped_keys-within m.types.items linked.standing)
 
-    pub linked-on : IsLinked (types ++ more) m
+    pub linked-on : AreFoundByDigest (types ++ more) m
     linked-on = grind (arith, read-within, mapped_keys-within)
 
 -- ---- one more is recorded
 
-module _ (types : List WasmSubType) (old new : MappedTypes) (f : WasmFuncType) (ty : TypeIndex) (linked : IsLinked types old)
+module _ (types : List WasmSubType) (old new : MappedTypes) (f : WasmFuncType) (ty : TypeIndex) (linked : AreFoundByDigest types old)
     (stands : part_at func_in types ty ≡ Some f) (digest : ℕ) (is : digest ≡ digest_of old.hasher f)
     (hasher : new.hasher ≡ old.hasher) (m : MappedType) (at : m.ty ≡ ty) (before : m.before ≡ newest_of old digest)
     (listed : new.types.items ≡ old.types.items ++ m ∷ [])
@@ -203,7 +203,7 @@ module _ (types : List WasmSubType) (old new : MappedTypes) (f : WasmFuncType) (
 
 -- ---- none was recorded
 
-pub linked-none : (types : List WasmSubType) (m : MappedTypes) → m.types.items ≡ [] → ((q : ℕ) → newest_of m q ≡ 0) → IsLinked types m
+pub linked-none : (types : List WasmSubType) (m : MappedTypes) → m.types.items ≡ [] → ((q : ℕ) → newest_of m q ≡ 0) → AreFoundByDigest types m
 linked-none types m none nothing = grind arith
 
 -- ---- the last of a list

@@ -9,10 +9,10 @@ use Rattle.wasm_spec.specs.TypeData.{SubType, map_sub_type, sub_type_edges, grou
 use Rattle.wasm_spec.specs.Sizes.{HasShortLists}
 use Rattle.type_spec.specs.TypeShapes.{sub_type_shape}
 use Rattle.type_spec.specs.Names.{named}
-use Rattle.type_spec.specs.Interned.{Span}
+use Rattle.type_spec.specs.Interned.{GroupSpan}
 use Rattle.form_reader.specs.declared.types.SubType.{SubType as Read}
 use Rattle.form_reader.specs.Views as form
-use Rattle.form_types.specs.Types.{NamedGroup, TypesData, types_by_id, IsIdBelow, NameEarlier, ContinuesFunction, IsSound}
+use Rattle.form_types.specs.Types.{NamedGroup, TypesData, types_by_id, IsIdBelow, NameEarlier, ContinuesFunction, TypesAreSound}
 use Rattle.form_types.specs.Numbered.{first_id}
 use Rattle.wasm_types.specs.declared.sub.WasmSubType.{WasmSubType}
 use Rattle.wasm_types.specs.TypeViews.{sub_type_of}
@@ -54,7 +54,7 @@ names-earlier first (g ∷ gs) (suc k) e =
     omega (arith, length-append g (types_by_id (take k gs))) in
     All-weaker _ (IsIdBelow (first + (next + length (get_or gs k [])))) (below-more _ _ le) (group_edges (λ r. r) (get_or gs k [])) rest
 
-module _ (t : TypesData) (next : ℕ) (spans : List Span) (ids : ℕ → Option ℕ) (k : ℕ)
+module _ (t : TypesData) (next : ℕ) (spans : List GroupSpan) (ids : ℕ → Option ℕ) (k : ℕ)
     (holds : (m j : ℕ) → ids m ≡ Some j → StandsInterned t spans m j) (room : ids k ≡ None → next + length (members_of t k) < 4294967295) where
   -- an id of a group that is interned, or of the one that comes next
   pub index-known : (n : ℕ) → n < length (types_by_id t.groups) → (group_of_id t n ≡ k) ⊎ IsSome (ids (group_of_id t n)) → HasIndex t next spans ids n
@@ -69,7 +69,7 @@ module _ (t : TypesData) (next : ℕ) (spans : List Span) (ids : ℕ → Option 
       → (group_of_id t (id_number i) ≡ k) ⊎ IsSome (ids (group_of_id t (id_number i))) → CanLookUp (KnowsId t next spans ids) i
   knows bound le i lt held = grind (arith, index-known)
 
-  pub members-known : IsSound t
+  pub members-known : TypesAreSound t
       → All (λ i. (group_of_id t (id_number i) ≡ k) ⊎ IsSome (ids (group_of_id t (id_number i)))) (group_edges (λ r. r) (members_of t k))
       → (members : List Read) → members_of t k ≡ map form.sub_type_of members
       → All (λ m. Known (KnowsId t next spans ids) (sub_type_edges (λ i. i) (form.sub_type_of m))) members
@@ -85,8 +85,8 @@ all-in P [] k all = All-nil P
 all-in P (g ∷ gs) zero all = ((All-joined P g (types_by_id gs)).0 all).0
 all-in P (g ∷ gs) (suc k) all = all-in P gs k ((All-joined P g (types_by_id gs)).0 all).1
 
-module _ (t : TypesData) (next : ℕ) (spans : List Span) (ids : ℕ → Option ℕ) where
-  pub members-can : (k : ℕ) (members : List Read) → members_of t k ≡ map form.sub_type_of members → IsSound t
+module _ (t : TypesData) (next : ℕ) (spans : List GroupSpan) (ids : ℕ → Option ℕ) where
+  pub members-can : (k : ℕ) (members : List Read) → members_of t k ≡ map form.sub_type_of members → TypesAreSound t
       → All (λ m. CanConvert (look_by_id t next spans ids) (form.composite_of m.composite)) members
   members-can k members is sound =
       let resumed = All-from_map (ContinuesFunction (types_by_id t.groups)) form.sub_type_of members (coe 0 1 (j. All (ContinuesFunction (types_by_id t.groups)) (is j)) (all-in (ContinuesFunction (types_by_id t.groups)) t.groups k sound.continuations)) in

@@ -14,7 +14,7 @@ use Rattle.wasm_spec.specs.Module as plain
 use Rattle.type_spec.specs.TypeShapes.{group_shape}
 use Rattle.type_spec.specs.Names.{NameKind, plainly}
 use Rattle.type_spec.specs.Equality.{Home, home, SameType}
-use Rattle.type_spec.specs.Interned.{Interned, Span, Built, Taking, with_group, opened, kind_of_type, kind_at, interned_group, take_group, none_taken, taken}
+use Rattle.type_spec.specs.Interned.{Interned, GroupSpan, Built, Taking, with_group, opened, kind_of_type, kind_at, interned_group, take_group, none_taken, taken}
 use Rattle.type_spec.specs.Taken.{NameEarlier}
 use Rattle.type_spec.proofs.Equivalence.{home-start}
 use Rattle.type_spec.proofs.Homes.{size, size-cons, home-within, home-again, home-type}
@@ -243,7 +243,7 @@ module _ (m : plain.Module) (t : TypesData) (are : AreNumbered m t) (near : Name
                     at = x.at;
                     id_is = noted-elsewhere b.ids (group n) at (group i) (λ e. other i lt' old (sym e)) ∙ x.id_is;
                     within = omega (arith, x.within, group-within b.built next later.built after);
-                    index = ap (λ (r : Span). r.start + (i - (home all i).start)) (span-old b.built next later.built after x.at x.within) ∙ x.index;
+                    index = ap (λ (r : GroupSpan). r.start + (i - (home all i).start)) (span-old b.built next later.built after x.at x.within) ∙ x.index;
                   }
               | inr e ↦
                   let same = ap (group_of_id t) ((are.exact here.start (home all i).start (omega (arith, home-start all n, lt, counted)) (omega (arith, home-start all i, lt', counted))).1
@@ -252,7 +252,7 @@ module _ (m : plain.Module) (t : TypesData) (are : AreNumbered m t) (near : Name
                     at = at;
                     id_is = ap later.ids (first-group i lt' ∙ sym same ∙ sym (first-group n lt)) ∙ noted-here b.ids (group n) at;
                     within = group-within b.built next later.built after;
-                    index = ap (λ (r : Span). r.start + (i - (home all i).start)) (span-new b.built next later.built after)
+                    index = ap (λ (r : GroupSpan). r.start + (i - (home all i).start)) (span-new b.built next later.built after)
                         ∙ ap (λ k. k + (i - (home all i).start)) long-types ∙ sym (number-here all n lt unmet i lt' e);
                   }
             ];

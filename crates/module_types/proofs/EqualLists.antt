@@ -7,7 +7,7 @@ use Rattle.std.proofs.lemmas.List.{length-map}
 use Rattle.std.proofs.lemmas.List.Elements.{All-nil, All-cons, All-head, All-tail}
 use Rattle.wasm_spec.specs.TypeData.{Group}
 use Rattle.type_spec.specs.Equality.{Home, SameType, home, SameGroup}
-use Rattle.type_spec.specs.Interned.{Interned, Built, empty, with_group, kind_at, taken, Span, next_span}
+use Rattle.type_spec.specs.Interned.{Interned, Built, empty, with_group, kind_at, taken, GroupSpan, next_span}
 use Rattle.type_spec.specs.TakenGroups.{taken_groups}
 use Rattle.type_spec.specs.Taken.{NameEarlier, TakeEqual, SameLists}
 use Rattle.type_spec.proofs.ByNames.{name_by, same-kind}
@@ -126,7 +126,7 @@ groups_determined b (ts ∷ tss) (us ∷ uss) p q types groups =
     let y = first-group b us uss in
     let spans : next_span b (length ts) ∷ x.groups_more ≡ next_span b (length us) ∷ y.groups_more = grind (arith, common_steps, back-same, groups-apart) in
     let first : next_span b (length ts) ≡ next_span b (length us) = cc in
-    let long : length ts ≡ length us = omega (arith, ap (λ (s : Span). s.end) first) in
+    let long : length ts ≡ length us = omega (arith, ap (λ (s : GroupSpan). s.end) first) in
     let same : ts ≡ us = grind (arith, common_steps, front-same, back-same, types-apart) in
     let rest = groups_determined (with_group b ts) tss uss (All-tail (λ ts. 0 < length ts) ts tss p) (All-tail (λ ts. 0 < length ts) us uss q)
     (types ∙ ap (λ vs. (with_groups (with_group b vs) uss).types) (sym same))

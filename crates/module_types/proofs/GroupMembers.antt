@@ -5,7 +5,7 @@ use Rattle.std.specs.Prelude.{◌==◌, if◌then◌else◌}
 use Rattle.std.proofs.lemmas.List.{append_assoc, append-nil, length-append, get_or_at, get_or_append_left, drop_at, take_at}
 use Rattle.wasm_spec.specs.TypeData.{Composite, Func, Group}
 use Rattle.type_spec.specs.Names.{Named}
-use Rattle.type_spec.specs.Interned.{Interned, Called, Built, Span, mapped, plain, alone, assign_at, assign_trampoline, assign_trampolines, composite_at, opened, with_group, next_span, exception_for, startup_type, with_exception, with_startup, Taking, empty, with_exceptions, numbered, interned_group, take_group, none_taken, taken, interned}
+use Rattle.type_spec.specs.Interned.{Interned, Called, Built, GroupSpan, mapped, plain, alone, assign_at, assign_trampoline, assign_trampolines, composite_at, opened, with_group, next_span, exception_for, startup_type, with_exception, with_startup, Taking, empty, with_exceptions, numbered, interned_group, take_group, none_taken, taken, interned}
 use Rattle.type_spec.specs.Equality.{Home}
 use Rattle.entity_map.specs.Firsts.{firsts, firsts_after}
 use Rattle.type_spec.specs.TakenGroups.{taken_groups}
@@ -18,12 +18,12 @@ use Rattle.std.proofs.lemmas.List.Elements.{All-nil, All-cons, All-head, All-tai
 
 -- ---- spans one after another
 
-pub one-more : (first end later : ℕ) (ss : List Span) → LieBetween first ss end → end < later
+pub one-more : (first end later : ℕ) (ss : List GroupSpan) → LieBetween first ss end → end < later
     → LieBetween first (ss ++ record { start = end; end = later } ∷ []) later
 one-more first end later [] lie more = (sym lie, more, refl)
 one-more first end later (s ∷ ss) lie more = (lie.0, lie.1, one-more s.end end later ss lie.2 more)
 
-few-from : (first end : ℕ) (ss : List Span) → LieBetween first ss end → length ss + first ≤ end
+few-from : (first end : ℕ) (ss : List GroupSpan) → LieBetween first ss end → length ss + first ≤ end
 few-from first end [] lie = omega (arith, lie)
 few-from first end (s ∷ ss) lie = grind (arith, (few-from s.end end ss lie.2))
 
@@ -31,7 +31,7 @@ few-from first end (s ∷ ss) lie = grind (arith, (few-from s.end end ss lie.2))
 pub few-groups : (b : Built) → IsOrderly b → length b.groups ≤ length b.types
 few-groups b orderly = omega (arith, few-from 0 (length b.types) b.groups orderly)
 
-pub lie-to : (first end later : ℕ) (ss : List Span) → end ≡ later → LieBetween first ss end → LieBetween first ss later
+pub lie-to : (first end later : ℕ) (ss : List GroupSpan) → end ≡ later → LieBetween first ss end → LieBetween first ss later
 lie-to first end later ss same lie = coe 0 1 (j. LieBetween first ss (same j)) lie
 
 -- ---- one step
@@ -61,10 +61,10 @@ module _ (R : Built → Built → Type 0) (none : (b : Built) → R b b)
 
 -- ---- types and groups come after the others
 
-pub record ExtendsLists (ts us : List Interned) (ss rs : List Span) : Type 0 where
+pub record ExtendsLists (ts us : List Interned) (ss rs : List GroupSpan) : Type 0 where
   pub types_more : List Interned
   pub types : us ≡ ts ++ types_more
-  pub groups_more : List Span
+  pub groups_more : List GroupSpan
   pub groups : rs ≡ ss ++ groups_more
 
 abbrev pub Extends : Built → Built → Type 0

@@ -4,7 +4,7 @@ use Rattle.std.proofs.Common.{◌≡◌, ◌<◌, ℕ, true, false, List, length
 use Rattle.std.specs.Prelude.{if◌then◌else◌, slice_get, is_some}
 use Rattle.std.proofs.lemmas.Bool.{eqb-true, eq-eqb, cases_eq, eqb-false}
 use Rattle.std.proofs.lemmas.Option.{same_Some}
-use Rattle.type_spec.specs.Interned.{Interned, Span, with_group, opened, empty, with_exception, with_startup}
+use Rattle.type_spec.specs.Interned.{Interned, GroupSpan, with_group, opened, empty, with_exception, with_startup}
 use Rattle.form_types.specs.Types.{TypesData, types_by_id}
 use Rattle.module_types.specs.Builder.{Builder, noted, interns_by, interns, new_builder, BuilderState, builder_view, excepts, starts}
 use Rattle.module_types.specs.Conversion.{group_of_id, members_of, no_span, kinds_of, HasIndex, HoldsGroup, HoldsGroups}
@@ -102,7 +102,7 @@ module _ (t : TypesData) (b : Builder) (k : ℕ) (ts : List Interned) (holds : H
       record {
         stands = record {
           within = omega (arith, s.within, longer);
-          whole = omega (arith, s.whole, ap (λ (r : Span). r.start) at, ap (λ (r : Span). r.end) at);
+          whole = omega (arith, s.whole, ap (λ (r : GroupSpan). r.start) at, ap (λ (r : GroupSpan). r.end) at);
         };
         kinds = ap kinds_of ((λ i. take n (drop (at i).start (types-apart b.built ts (with_group b.built ts) x i)))
             ∙ taken-on n start b.built.types (ts ++ x.types_more) there) ∙ h.kinds;
@@ -115,7 +115,7 @@ module _ (t : TypesData) (b : Builder) (k : ℕ) (ts : List Interned) (holds : H
       record {
         stands = record {
           within = longer;
-          whole = omega (arith, long, ap (λ (r : Span). r.start) at, ap (λ (r : Span). r.end) at);
+          whole = omega (arith, long, ap (λ (r : GroupSpan). r.start) at, ap (λ (r : GroupSpan). r.end) at);
         };
         kinds = ap kinds_of ((λ i. take n (drop (at i).start (types-apart b.built ts (with_group b.built ts) x i)))
             ∙ taken-behind n b.built.types ts x.types_more long) ∙ kinds;

@@ -26,7 +26,7 @@ use Rattle.module_types.specs.Passed.{code_of, words_of, fed_with}
 
 -- ---- the way back
 
-values-back : (vs : List (types.Value (Named ℕ))) → map (map_value (named interned_number)) (map value_of (map value_at vs)) ≡ vs
+values-back : (vs : List (types.ValueType (Named ℕ))) → map (map_value (named interned_number)) (map value_of (map value_at vs)) ≡ vs
 values-back [] = refl
 values-back (v ∷ vs) = grind (arith, (values-back vs))
 
@@ -47,11 +47,11 @@ called-mapped f = ap called_of (mapped-is f) ∙ function-back (mapped (called_o
 
 -- ---- equality of keys
 
-value-is : (v : types.Value (Named ℕ)) (b : WasmValType)
+value-is : (v : types.ValueType (Named ℕ)) (b : WasmValType)
     → values.ghosts.eq (value_at (passed v)) b ≡ same_value (map_value erased (passed v)) (map_value erased (plain_value b))
 value-is v b = grind arith
 
-values-are : (vs : List (types.Value (Named ℕ))) (ws : List WasmValType)
+values-are : (vs : List (types.ValueType (Named ℕ))) (ws : List WasmValType)
     → pointwise values.ghosts.eq (map value_at (map passed vs)) ws
     ≡ pointwise same_value (map (map_value erased) (map passed vs)) (map (map_value erased) (map (map_value (named interned_number)) (map value_of ws)))
 values-are [] [] = refl
@@ -76,7 +76,7 @@ key-is f q = key-tested f q ∙ sym (mapped-tested (mapped (called_of f)) (calle
 
 -- ---- mapped again and compared
 
-all-twice : (vs : List (types.Value (Named ℕ))) → map passed (map passed vs) ≡ map passed vs
+all-twice : (vs : List (types.ValueType (Named ℕ))) → map passed (map passed vs) ≡ map passed vs
 all-twice [] = refl
 all-twice (v ∷ vs) = grind (arith, (all-twice vs))
 

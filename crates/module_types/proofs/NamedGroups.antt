@@ -13,10 +13,10 @@ use Rattle.wasm_spec.specs.declared.types.UnpackedIndex.TheVariants as index
 use Rattle.wasm_spec.specs.TypeData.{SubType, Struct, Func, map_group, group_edges}
 use Rattle.type_spec.specs.TypeShapes.{group_shape}
 use Rattle.type_spec.specs.Names.{NameKind, Named, index_of, plainly, alike-mapped}
-use Rattle.type_spec.specs.Interned.{Interned, Called, Built, Span, kind_of_type, composite_at, plain, mapped, opened, with_group, with_exception, with_startup, exception_for, startup_type, empty}
+use Rattle.type_spec.specs.Interned.{Interned, Called, Built, GroupSpan, kind_of_type, composite_at, plain, mapped, opened, with_group, with_exception, with_startup, exception_for, startup_type, empty}
 use Rattle.type_spec.proofs.ByNames.{name_by, by_names, zip-known-itself}
 use Rattle.type_spec.proofs.Homes.{joined, size}
-use Rattle.form_types.specs.Types.{TypesData, types_by_id, group_numbers, IsIdBelow, IsSound}
+use Rattle.form_types.specs.Types.{TypesData, types_by_id, group_numbers, IsIdBelow, TypesAreSound}
 use Rattle.form_types.specs.Numbered.{first_id}
 use Rattle.module_types.specs.Builder.{Builder}
 use Rattle.module_types.specs.Conversion as conversion
@@ -65,7 +65,7 @@ module _ {H R : Type 0} (d : SubType H R) where
 
 -- ---- a group of a list of types
 
-module _ (t : TypesData) (b : Builder) (k : ℕ) (can : CanIntern t b k) (sound : IsSound t) where
+module _ (t : TypesData) (b : Builder) (k : ℕ) (can : CanIntern t b k) (sound : TypesAreSound t) where
   abbrev next : List Interned
   next = interned_members t b k
 
@@ -222,7 +222,7 @@ unshared-group b ts all more =
 pub empty-listed : MayBeListed empty
 empty-listed = record { well_named = well-named empty well-empty; unshared = All-nil Unshared }
 
-pub group-listed : (t : TypesData) (b : Builder) (k : ℕ) → CanIntern t b k → IsSound t → IsUnshared (interned_members t b k) → MayBeListed b.built
+pub group-listed : (t : TypesData) (b : Builder) (k : ℕ) → CanIntern t b k → TypesAreSound t → IsUnshared (interned_members t b k) → MayBeListed b.built
     → MayBeListed (with_group b.built (interned_members t b k))
 group-listed t b k can sound plain x = record {
   well_named = well-named (with_group b.built (interned_members t b k)) (well-next-group t b k can sound (well-of b.built x.well_named));

@@ -6,7 +6,7 @@ use Rattle.std.specs.Prelude.{◌⊎◌}
 use Rattle.std.proofs.lemmas.Bool.{cases_lt, false≢true}
 use Rattle.std.proofs.lemmas.List.{length-map, length_push, get_or_past}
 use Rattle.std.proofs.lemmas.List.Elements.{All-nil, All-map, All-weaker, All-cons, All-append}
-use Rattle.wasm_spec.specs.TypeData.{Struct, SubType, Group, map_sub_type, map_group, group_edges, Value, Composite, Func, Exn, map_value, map_field, map_composite, value_edges, field_edges, composite_edges, sub_type_edges}
+use Rattle.wasm_spec.specs.TypeData.{Struct, SubType, Group, map_sub_type, map_group, group_edges, ValueType, Composite, Func, Exn, map_value, map_field, map_composite, value_edges, field_edges, composite_edges, sub_type_edges}
 use Rattle.type_spec.specs.Shapes.{erased}
 use Rattle.type_spec.specs.TypeShapes.{group_shape}
 use Rattle.type_spec.specs.Names.{NameKind, plainly, Named, index_of}
@@ -26,7 +26,7 @@ use Rattle.form_types.proofs.AllOf.{All-joined}
 
 -- ---- a mapped type names nothing
 
-values-nothing : (vs : List (Value (Named ℕ))) → flat_map (value_edges (λ (r : ℕ). r)) (map (map_value (index_of {R = ℕ})) (map passed vs)) ≡ []
+values-nothing : (vs : List (ValueType (Named ℕ))) → flat_map (value_edges (λ (r : ℕ). r)) (map (map_value (index_of {R = ℕ})) (map passed vs)) ≡ []
 values-nothing [] = refl
 values-nothing (v ∷ vs) = grind (arith, (values-nothing vs))
 
@@ -34,7 +34,7 @@ mapped-nothing : (f : Called) → group_edges (λ r. r) (unkinded (plain (Func (
 mapped-nothing f = λ i. (values-nothing f.params i ++ values-nothing f.results i) ++ []
 
 module _ (kind : ℕ → NameKind) where
-  values-named : (vs : List (Value (Named ℕ)))
+  values-named : (vs : List (ValueType (Named ℕ)))
       → map (map_value (name_by kind (λ (r : ℕ). r))) (map (map_value (index_of {R = ℕ})) (map passed vs)) ≡ map passed vs
   values-named [] = refl
   values-named (v ∷ vs) = grind (arith, (values-named vs))
@@ -74,12 +74,12 @@ module _ (index : ℕ → Named ℕ) where
       → map (map_value index) (map (map_value (index_of {R = ℕ})) f.params) ≡ f.params
   params-at ts i f same at = grind (arith, whole, composite-named)
 
-  fields-named : (vs : List (Value (Named ℕ))) → map (map_field index) (map (map_field (index_of {R = ℕ})) (map field_for vs))
+  fields-named : (vs : List (ValueType (Named ℕ))) → map (map_field index) (map (map_field (index_of {R = ℕ})) (map field_for vs))
       ≡ map field_for (map (map_value index) (map (map_value (index_of {R = ℕ})) vs))
   fields-named [] = refl
   fields-named (v ∷ vs) = λ i. field_for (map_value index (map_value (index_of {R = ℕ}) v)) ∷ fields-named vs i
 
-fields-edges : (vs : List (Value (Named ℕ))) → flat_map (field_edges (λ (r : ℕ). r)) (map (map_field (index_of {R = ℕ})) (map field_for vs))
+fields-edges : (vs : List (ValueType (Named ℕ))) → flat_map (field_edges (λ (r : ℕ). r)) (map (map_field (index_of {R = ℕ})) (map field_for vs))
     ≡ flat_map (value_edges (λ (r : ℕ). r)) (map (map_value (index_of {R = ℕ})) vs)
 fields-edges [] = refl
 fields-edges (v ∷ vs) = λ i. value_edges (λ r. r) (map_value (index_of {R = ℕ}) v) ++ fields-edges vs i

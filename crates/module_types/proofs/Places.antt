@@ -8,7 +8,7 @@ use Rattle.form_types.specs.Ids.{ids_from}
 use Rattle.form_types.specs.Types.{NamedGroup, TypesData, types_by_id, group_numbers, member_ids}
 use Rattle.form_types.specs.Numbered.{first_id}
 use Rattle.module_types.specs.Conversion.{group_of_id, members_of, start_by, index_by_id, StandsInterned, HasIndex, no_span}
-use Rattle.type_spec.specs.Interned.{Span}
+use Rattle.type_spec.specs.Interned.{GroupSpan}
 
 in-parts : (m v : ℕ) (rest : List ℕ) (n k : ℕ) → slice_get (replicate m v ++ rest) n ≡ Some k
     → ((n < m) × (v ≡ k)) ⊎ ((m ≤ n) × (slice_get rest (n - m) ≡ Some k))
@@ -78,7 +78,7 @@ group-ends (g ∷ gs) (suc k) = omega (arith, group-ends gs k, length-append g (
 
 -- ---- the index of the type of an id
 
-module _ {t : TypesData} {n next : ℕ} {spans : List Span} {ids : ℕ → Option ℕ} (has : HasIndex t next spans ids n)
+module _ {t : TypesData} {n next : ℕ} {spans : List GroupSpan} {ids : ℕ → Option ℕ} (has : HasIndex t next spans ids n)
     {k : ℕ} (e : slice_get (group_numbers 0 t.groups) n ≡ Some k) (known : k < length t.groups)
     {all : List CoreTypeId} (are : slice_get (member_ids 0 t.groups) k ≡ Some all) where
   members : 0 < length (members_of t k)
@@ -100,7 +100,7 @@ module _ {t : TypesData} {n next : ℕ} {spans : List Span} {ids : ℕ → Optio
     index-is : (o : Option ℕ) → ids k ≡ o → index_by_id t next spans ids n ≡ start_by t next spans ids o + (n - first.0)
     index-is o held = grind (arith, group-is, first-is)
 
-    module _ {j : ℕ} (held : ids k ≡ Some j) {s : Span} (at : slice_get spans j ≡ Some s) where
+    module _ {j : ℕ} (held : ids k ≡ Some j) {s : GroupSpan} (at : slice_get spans j ≡ Some s) where
       span-is : get_or spans j no_span ≡ s
       span-is = get_or_from_slice_get spans j s no_span at
 
@@ -108,7 +108,7 @@ module _ {t : TypesData} {n next : ℕ} {spans : List Span} {ids : ℕ → Optio
       held-within = grind (arith, stands, span-is, first-is, starts, within)
 
       pub held-index : index_by_id t next spans ids n ≡ s.start + (n - first.0)
-      held-index = index-is (Some j) held ∙ ap (λ (r : Span). r.start + (n - first.0)) span-is
+      held-index = index-is (Some j) held ∙ ap (λ (r : GroupSpan). r.start + (n - first.0)) span-is
 
     module _ (unheld : ids k ≡ None) where
       pub next-within : next + (n - first.0) < 4294967295

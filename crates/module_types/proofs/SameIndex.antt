@@ -9,7 +9,7 @@ use Rattle.type_spec.specs.Shapes.{erased}
 use Rattle.type_spec.specs.TypeShapes.{group_shape}
 use Rattle.type_spec.specs.Names.{plainly}
 use Rattle.type_spec.specs.Equality.{Home, home, target, target_by, SameTarget, SameGroup, SameType}
-use Rattle.type_spec.specs.Interned.{Interned, Span, Built, empty, with_group, next_span, opened, kind_at, taken, interned}
+use Rattle.type_spec.specs.Interned.{Interned, GroupSpan, Built, empty, with_group, next_span, opened, kind_at, taken, interned}
 use Rattle.type_spec.specs.TakenGroups.{taken_groups}
 use Rattle.type_spec.specs.Taken.{NameEarlier}
 use Rattle.type_spec.proofs.Equivalence.{type-chained, groups-type}
@@ -34,7 +34,7 @@ module _ (all : List (Group ℕ ℕ)) (number : ℕ → ℕ) (exact : IsExactBel
     abbrev first : ℕ
     first = length b.types
 
-    abbrev span : Span
+    abbrev span : GroupSpan
     span = next_span b (length next)
 
     long : length next ≡ length h.members

@@ -4,7 +4,7 @@ use Rattle.std.proofs.lemmas.List.{map-append, take-append-drop, drop-drop, drop
 use Rattle.std.proofs.Math.ListN.{drop_of_length-le}
 use Rattle.type_spec.specs.Names.{index_of}
 use Rattle.type_spec.specs.Equality.{home_from}
-use Rattle.type_spec.specs.Interned.{Interned, Span, Built, kind_of_type, kind_at}
+use Rattle.type_spec.specs.Interned.{Interned, GroupSpan, Built, kind_of_type, kind_at}
 use Rattle.type_spec.specs.Taken.{NameEarlier}
 use Rattle.type_spec.proofs.Homes.{joined, size, in_front}
 use Rattle.type_spec.proofs.ByNames.{name_by, by_names, some_type, joined-kind}
@@ -15,14 +15,14 @@ use Rattle.module_types.proofs.GroupKinds.{kind-mapped}
 use Rattle.module_types.proofs.WellNamed.{AllBelow, groups_of, span-ends, groups-size, types-long, unkinded-long, lie-low}
 
 -- a group with an index, in spans that begin at an index
-pub record StandsFrom (ts : List Interned) (ss : List Span) (first end : ℕ) (s : Span) : Type 0 where
+pub record StandsFrom (ts : List Interned) (ss : List GroupSpan) (first end : ℕ) (s : GroupSpan) : Type 0 where
   pub low : first ≤ s.start
   pub some : s.start < s.end
   pub high : s.end ≤ end
   pub at : home_from first (groups_of ts ss) s.start ≡ home_of ts s
   pub near : AllBelow s.end (unkinded (types_in ts s))
 
-stands-from : (ts : List Interned) (ss : List Span) (first end k : ℕ) → LieBetween first ss end → end ≤ length ts
+stands-from : (ts : List Interned) (ss : List GroupSpan) (first end k : ℕ) → LieBetween first ss end → end ≤ length ts
     → NameEarlier first (groups_of ts ss)
     → k < length ss → StandsFrom ts ss first end (get_or ss k no_span)
 stands-from ts [] first end k lie le earlier lt = absurd (omega arith)
@@ -44,7 +44,7 @@ stands-from ts (s ∷ ss) first end (suc k) lie le earlier lt =
     grind arith
 
 -- the groups of a list are its types
-pub joined-from : (ts : List Interned) (ss : List Span) (first : ℕ) → LieBetween first ss (length ts)
+pub joined-from : (ts : List Interned) (ss : List GroupSpan) (first : ℕ) → LieBetween first ss (length ts)
     → joined (groups_of ts ss) ≡ unkinded (drop first ts)
 joined-from ts [] first lie = ap unkinded (sym (drop_of_length-le ts (omega (arith, lie))))
 joined-from ts (s ∷ ss) first lie =
@@ -72,5 +72,5 @@ module _ (b : Built) (w : IsWellNamed b) where
   span-long k lt = grind (arith, stands-at, unkinded-long, types-long)
 
   -- a group's types, by names
-  pub span-named : (s : Span) → by_names (kind_in b.types) (λ r. r) (unkinded (types_in b.types s)) ≡ types_in b.types s
+  pub span-named : (s : GroupSpan) → by_names (kind_in b.types) (λ r. r) (unkinded (types_in b.types s)) ≡ types_in b.types s
   span-named s = grind (arith, name_by, drop-map, take-map)

@@ -3,7 +3,7 @@
 use Rattle.std.proofs.Common.{◌≡◌, ◌∙◌, ◌↔◌, ℕ, zero, suc, ◌<◌, ◌≤◌, Bool, true, false, nat_lt, List, [], ◌∷◌, length, get_or, refl, sym, arith, ◌-◌, ap}
 use Rattle.std.proofs.lemmas.Bool.{ltb-true, ltb-false, lt-ltb, le-ltb}
 use Rattle.type_spec.specs.Equality.{SameGroup, SameType, Home, home}
-use Rattle.type_spec.specs.Interned.{Span, Built}
+use Rattle.type_spec.specs.Interned.{GroupSpan, Built}
 use Rattle.type_spec.proofs.Equivalence.{groups-type, type-groups}
 use Rattle.wasm_index.specs.Index.{index_of}
 use Rattle.wasm_types.specs.declared.sub.WasmRecGroup.{WasmRecGroup}
@@ -131,13 +131,13 @@ all-before b b' w w' engine engine' told k l lt lt' i j before before' =
     told i j (omega (arith, s.high, s.some, before)) (omega (arith, s'.high, s'.some, before'))
 
 -- the group that has the type at an index
-pub record Has (ss : List Span) (i : ℕ) : Type 0 where
+pub record Has (ss : List GroupSpan) (i : ℕ) : Type 0 where
   pub number : ℕ
   pub within : number < length ss
   pub low : (get_or ss number no_span).start ≤ i
   pub high : i < (get_or ss number no_span).end
 
-find : (ss : List Span) (first end i : ℕ) → LieBetween first ss end → first ≤ i → i < end → Has ss i
+find : (ss : List GroupSpan) (first end i : ℕ) → LieBetween first ss end → first ≤ i → i < end → Has ss i
 find [] first end i lie low high = absurd (omega (arith, lie, low, high))
 find (s ∷ ss) first end i lie low high = by (nat_lt i s.end) refl (λ behind. find ss s.end end i lie.2 behind high) where
   by : (c : Bool) → nat_lt i s.end ≡ c → (s.end ≤ i → Has ss i) → Has (s ∷ ss) i

@@ -8,7 +8,7 @@ use Rattle.std.proofs.lemmas.List.Concat.{flat_map-append}
 use Rattle.std.proofs.lemmas.List.Elements.{All-append, All-weaker}
 use Rattle.wasm_spec.specs.TypeData.{Group, map_sub_type, group_edges, sub_type_edges}
 use Rattle.type_spec.specs.Names.{index_of}
-use Rattle.type_spec.specs.Interned.{Interned, Span, kind_of_type}
+use Rattle.type_spec.specs.Interned.{Interned, GroupSpan, kind_of_type}
 use Rattle.type_spec.specs.Taken.{NameEarlier}
 use Rattle.type_spec.proofs.Homes.{size, size-cons}
 use Rattle.type_spec.proofs.ByNames.{name_by, by_names, names-same, zip-known-itself}
@@ -19,11 +19,11 @@ use Rattle.module_types.proofs.GroupMembers.{composite-before, one-more, lie-to}
 abbrev pub AllBelow : ℕ → Group ℕ ℕ → Type 0
 AllBelow end g = All (λ r. r < end) (group_edges (λ r. r) g)
 
-abbrev pub groups_of : List Interned → List Span → List (Group ℕ ℕ)
-groups_of ts ss = map (λ (s : Span). unkinded (types_in ts s)) ss
+abbrev pub groups_of : List Interned → List GroupSpan → List (Group ℕ ℕ)
+groups_of ts ss = map (λ (s : GroupSpan). unkinded (types_in ts s)) ss
 
 -- a well named list, and what is below its end
-pub record Well (ts : List Interned) (ss : List Span) : Type 0 where
+pub record Well (ts : List Interned) (ss : List GroupSpan) : Type 0 where
   pub orderly : LieBetween 0 ss (length ts)
   pub earlier : NameEarlier 0 (groups_of ts ss)
   pub below : AllBelow (length ts) (unkinded ts)
@@ -34,14 +34,14 @@ unkinded-long ts = length-map ts _
 
 -- ---- spans
 
-pub lie-low : (first end : ℕ) (ss : List Span) → LieBetween first ss end → first ≤ end
+pub lie-low : (first end : ℕ) (ss : List GroupSpan) → LieBetween first ss end → first ≤ end
 lie-low first end [] lie = omega (arith, lie)
 lie-low first end (s ∷ ss) lie = let rest = lie-low s.end end ss lie.2 in omega (arith, rest, lie.0, lie.1)
 
-pub types-long : (ts : List Interned) (s : Span) → s.start ≤ s.end → s.end ≤ length ts → length (types_in ts s) ≡ s.end - s.start
+pub types-long : (ts : List Interned) (s : GroupSpan) → s.start ≤ s.end → s.end ≤ length ts → length (types_in ts s) ≡ s.end - s.start
 types-long ts s low high = length-take-le (s.end - s.start) (drop s.start ts) (omega (arith, length-drop s.start ts, low, high))
 
-groups-before : (ts us : List Interned) (ss : List Span) (first end : ℕ) → LieBetween first ss end → end ≤ length ts
+groups-before : (ts us : List Interned) (ss : List GroupSpan) (first end : ℕ) → LieBetween first ss end → end ≤ length ts
     → groups_of (ts ++ us) ss ≡ groups_of ts ss
 groups-before ts us [] first end lie le = refl
 groups-before ts us (s ∷ ss) first end lie le =
@@ -50,11 +50,11 @@ groups-before ts us (s ∷ ss) first end lie le =
     let same : types_in (ts ++ us) s ≡ types_in ts s = grind (arith, lie.1, drop-append-le, take-append-le, length-drop) in
     λ i. unkinded (same i) ∷ groups-before ts us ss s.end end lie.2 le i
 
-pub span-ends : (ts : List Interned) (s : Span) (ss : List Span) (first end : ℕ) → LieBetween first (s ∷ ss) end → end ≤ length ts
+pub span-ends : (ts : List Interned) (s : GroupSpan) (ss : List GroupSpan) (first end : ℕ) → LieBetween first (s ∷ ss) end → end ≤ length ts
     → first + length (unkinded (types_in ts s)) ≡ s.end
 span-ends ts s ss first end lie le = grind (arith, lie-low, unkinded-long, types-long)
 
-pub groups-size : (ts : List Interned) (ss : List Span) (first end : ℕ) → LieBetween first ss end → end ≤ length ts
+pub groups-size : (ts : List Interned) (ss : List GroupSpan) (first end : ℕ) → LieBetween first ss end → end ≤ length ts
     → first + size (groups_of ts ss) ≡ end
 groups-size ts [] first end lie le = omega (arith, lie)
 groups-size ts (s ∷ ss) first end lie le = grind (arith, size-cons (unkinded (types_in ts s)) (groups_of ts ss), span-ends ts s ss first end lie le, (groups-size ts ss s.end end lie.2 le))
@@ -83,9 +83,9 @@ named-before ts us g below =
 
 -- ---- a group more
 
-module _ (ts us : List Interned) (ss : List Span) (well : Well ts ss) (some : 0 < length us)
+module _ (ts us : List Interned) (ss : List GroupSpan) (well : Well ts ss) (some : 0 < length us)
     (below : AllBelow (length ts + length us) (unkinded us)) (kinds : by_names (kind_in (ts ++ us)) (λ r. r) (unkinded us) ≡ us) where
-  abbrev span : Span
+  abbrev span : GroupSpan
   span = record { start = length ts; end = length ts + length us }
 
   pub well-next : Well (ts ++ us) (ss ++ span ∷ [])

@@ -5,7 +5,7 @@ use Rattle.wasm_spec.specs.declared.types.UnpackedIndex.{UnpackedIndex}
 use Rattle.wasm_spec.specs.declared.types.UnpackedIndex.TheVariants as index
 use Rattle.wasm_spec.specs.TypeData.{SubType, map_group, group_edges}
 use Rattle.type_spec.specs.Names.{NameKind, FuncName, Named, named}
-use Rattle.type_spec.specs.Interned.{Interned, Span, kind_of_type}
+use Rattle.type_spec.specs.Interned.{Interned, GroupSpan, kind_of_type}
 use Rattle.form_types.specs.Types.{NamedGroup, TypesData, types_by_id, group_numbers}
 use Rattle.form_types.specs.Numbered.{first_id}
 use Rattle.wasm_types.specs.ValueViews.{Name}
@@ -21,7 +21,7 @@ abbrev pub kind_in : Option (SubType UnpackedIndex UnpackedIndex) → NameKind
 kind_in (Some t) = kind_of_type t.composite.inner
 kind_in None = FuncName
 
-abbrev pub no_span : Span
+abbrev pub no_span : GroupSpan
 no_span = record { start = 0; end = 0 }
 
 module _ (t : TypesData) where
@@ -38,18 +38,18 @@ module _ {H R : Type 0} where
   kinds_of ts = map (λ (t : SubType H R). kind_of_type t.composite.inner) ts
 
 -- a group is interned under its id with all its members
-pub record StandsInterned (t : TypesData) (spans : List Span) (k j : ℕ) : Type 0 where
+pub record StandsInterned (t : TypesData) (spans : List GroupSpan) (k j : ℕ) : Type 0 where
   pub within : j < length spans
   pub whole : (get_or spans j no_span).end ≡ (get_or spans j no_span).start + length (members_of t k)
 
 -- it is interned so, and its members are of the kinds of those in the list of types
-pub record HoldsGroup (t : TypesData) (types : List Interned) (spans : List Span) (k j : ℕ) : Type 0 where
+pub record HoldsGroup (t : TypesData) (types : List Interned) (spans : List GroupSpan) (k j : ℕ) : Type 0 where
   pub stands : StandsInterned t spans k j
   pub kinds : kinds_of (take (length (members_of t k)) (drop (get_or spans j no_span).start types)) ≡ kinds_of (members_of t k)
 
 -- a list of types by ids; the next index, the indices of each interned group, and the group that
 -- was interned under each id of a group
-module _ (t : TypesData) (next : ℕ) (spans : List Span) (ids : ℕ → Option ℕ) where
+module _ (t : TypesData) (next : ℕ) (spans : List GroupSpan) (ids : ℕ → Option ℕ) where
   -- where the first member of a group is: where it was interned, or else at the next index
   abbrev pub start_by : Option ℕ → ℕ
   start_by (Some j) = (get_or spans j no_span).start

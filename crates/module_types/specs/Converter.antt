@@ -7,7 +7,7 @@ use Rattle.std.specs.Coded.{le_prop}
 use Rattle.wasm_spec.specs.declared.types.UnpackedIndex.{UnpackedIndex}
 use Rattle.wasm_spec.specs.declared.types.UnpackedIndex.TheVariants as index
 use Rattle.type_spec.specs.Names.{named}
-use Rattle.type_spec.specs.Interned.{Span, kind_of_type, composite_at}
+use Rattle.type_spec.specs.Interned.{GroupSpan, kind_of_type, composite_at}
 use Rattle.form_types.specs.Types.{TypesData, types_by_id}
 use Rattle.wasm_index.specs.declared.index.Index.{Index}
 use Rattle.wasm_index.specs.declared.spaces.TypeSpace.{TypeSpace}
@@ -47,7 +47,7 @@ HaveIndices b (Some p) =
     StandGroups p.0 (builder_view b)
     × ((builder_view b).ids p.1 ≡ None → length b.list.types + length (members_of p.0 p.1) < 4294967295)
 
-stands-prop : (t : TypesData) (spans : List Span) (k j : ℕ) (x y : StandsInterned t spans k j) → x ≡ y
+stands-prop : (t : TypesData) (spans : List GroupSpan) (k j : ℕ) (x y : StandsInterned t spans k j) → x ≡ y
 stands-prop t spans k j x y = λ i. record { within = le_prop x.within y.within i; whole = ℕ_set _ _ x.whole y.whole i }
 
 pub HaveIndices-prop : (b : BuilderState) (ids : Option TypesAndGroup) (x y : HaveIndices b ids) → x ≡ y

@@ -14,7 +14,7 @@ use Rattle.module_types.specs.declared.interner.Interner.{Interner}
 use Rattle.module_types.specs.Held.{built_of}
 use Rattle.module_types.specs.IndicesByKey.{noted_at}
 use Rattle.module_types.specs.Builder.{Builder, new_builder}
-use Rattle.module_types.specs.MappedTypes.{digest_of, mapped_at, IsLinked}
+use Rattle.module_types.specs.MappedTypes.{digest_of, mapped_at, AreFoundByDigest}
 
 -- where the recorded function types are
 abbrev pub known : Interner → WasmFuncType → Option TypeIndex
@@ -25,14 +25,14 @@ built i = built_of i.list (known i)
 
 -- each recorded type is found
 abbrev pub FindsMapped : Interner → Type 0
-FindsMapped i = IsLinked i.list.types i.mapped_types
+FindsMapped i = AreFoundByDigest i.list.types i.mapped_types
 
 -- the same, with the ids of its groups, as a builder that holds nothing else
 abbrev pub holding : Built → List (Option ℕ) → Builder
 holding b ids = record (new_builder 0) { built = b; ids = noted_at ids }
 
 -- between growing calls
-pub record IsSound (i : Interner) : Type 0 where
+pub record InternerIsSound (i : Interner) : Type 0 where
   pub orderly : IsOrderly (built i)
   pub found : FindsMapped i
 

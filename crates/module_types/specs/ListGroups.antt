@@ -3,7 +3,7 @@ use Rattle.std.specs.Prelude.{◌≡◌, ◌↔◌, ◌<◌, ◌≤◌, ℕ, ◌
 use Rattle.wasm_spec.specs.TypeData.{Group, map_group}
 use Rattle.type_spec.specs.Names.{NameKind, Named, named, index_of as index_in}
 use Rattle.type_spec.specs.Equality.{Home, SameType}
-use Rattle.type_spec.specs.Interned.{Interned, Span, Built, kind_of_type, composite_at}
+use Rattle.type_spec.specs.Interned.{Interned, GroupSpan, Built, kind_of_type, composite_at}
 use Rattle.type_spec.specs.Taken.{NameEarlier}
 use Rattle.wasm_index.specs.declared.index.Index.{Index}
 use Rattle.wasm_index.specs.declared.spaces.VMSharedTypeSpace.{VMSharedTypeSpace}
@@ -21,21 +21,21 @@ abbrev pub unkinded : List Interned → Group ℕ ℕ
 unkinded ts = map_group (index_in {R = ℕ}) (λ (r : ℕ). r) ts
 
 -- the types of a span
-abbrev pub types_in : List Interned → Span → List Interned
+abbrev pub types_in : List Interned → GroupSpan → List Interned
 types_in ts s = take (s.end - s.start) (drop s.start ts)
 
-abbrev pub home_of : List Interned → Span → Home
+abbrev pub home_of : List Interned → GroupSpan → Home
 home_of ts s = record { start = s.start; members = unkinded (types_in ts s) }
 
 -- the group with an index, and where it is
-abbrev pub span_at : Built → ℕ → Span
+abbrev pub span_at : Built → ℕ → GroupSpan
 span_at b k = get_or b.groups k no_span
 
 abbrev pub group_at : Built → ℕ → Home
 group_at b k = home_of b.types (span_at b k)
 
 abbrev pub list_groups : Built → List (Group ℕ ℕ)
-list_groups b = map (λ (s : Span). unkinded (types_in b.types s)) b.groups
+list_groups b = map (λ (s : GroupSpan). unkinded (types_in b.types s)) b.groups
 
 -- the kind of the type at an index
 abbrev pub kind_in : List Interned → ℕ → NameKind

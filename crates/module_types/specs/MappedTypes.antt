@@ -69,11 +69,11 @@ pub record AreChained (digest : WasmFuncType → ℕ) (newest : ℕ → ℕ) (rs
   pub next : (i : ℕ) (r : MappedKey) → slice_get rs i ≡ Some r → (f : WasmFuncType) → digest f ≡ digest r.key → Leads digest rs f r.before i
 
 -- each recorded type is in the list, and is found by its digest
-pub record IsLinked (types : List WasmSubType) (m : MappedTypes) : Type 0 where
+pub record AreFoundByDigest (types : List WasmSubType) (m : MappedTypes) : Type 0 where
   pub standing : (i : ℕ) (t : MappedType) → slice_get m.types.items i ≡ Some t → IsSome (part_at func_in types t.ty)
   pub chained : AreChained (digest_of m.hasher) (newest_of m) (mapped_keys types m.types.items)
 
 -- a type was recorded at an index
 pub record IsNoted (types : List WasmSubType) (old new : MappedTypes) (f : WasmFuncType) (ty : TypeIndex) : Type 0 where
-  pub linked : IsLinked types new
+  pub linked : AreFoundByDigest types new
   pub puts : (q : WasmFuncType) → mapped_at types new q ≡ cond (func.ghosts.eq f q) (Some ty) (mapped_at types old q)

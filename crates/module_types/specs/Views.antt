@@ -4,7 +4,7 @@ use Rattle.std.specs.declared.ops.Range.{Range}
 use Rattle.wasm_spec.specs.TypeData as types
 use Rattle.wasm_spec.specs.TypeData.{map_sub_type, map_function, map_value, map_heap}
 use Rattle.type_spec.specs.Names.{Named, named}
-use Rattle.type_spec.specs.Interned.{Interned, Called, Span}
+use Rattle.type_spec.specs.Interned.{Interned, Called, GroupSpan}
 use Rattle.wasm_index.specs.declared.index.Index.{Index}
 use Rattle.wasm_index.specs.declared.spaces.ModuleInternedTypeSpace.{ModuleInternedTypeSpace}
 use Rattle.wasm_index.specs.Index.{number_of, index_of}
@@ -33,7 +33,7 @@ interned_number (index.Module i) = number_of i
 interned_number (index.Engine i) = 4294967295
 interned_number (index.RecGroup i) = 4294967295
 
-abbrev pub plain_value : WasmValType → types.Value (Named ℕ)
+abbrev pub plain_value : WasmValType → types.ValueType (Named ℕ)
 plain_value v = map_value (named interned_number) (value_of v)
 
 -- a function type, whose references are interned indices
@@ -48,7 +48,7 @@ abbrev pub interned_of : WasmSubType → Interned
 interned_of t = map_sub_type (named interned_number) interned_number (sub_type_of t)
 
 -- a range of indices
-abbrev pub span_of : Range TypeIndex → Span
+abbrev pub span_of : Range TypeIndex → GroupSpan
 span_of r = record { start = number_of r.start; end = number_of r.end }
 
 -- ---- the way back
@@ -59,7 +59,7 @@ index_at n = index.Module (index_of n)
 abbrev pub heap_at : types.Heap (Named ℕ) → WasmHeapType
 heap_at h = heap_from (map_heap (named index_at) h)
 
-abbrev pub value_at : types.Value (Named ℕ) → WasmValType
+abbrev pub value_at : types.ValueType (Named ℕ) → WasmValType
 value_at types.I32 = val.I32
 value_at types.I64 = val.I64
 value_at types.F32 = val.F32

@@ -45,7 +45,7 @@ pub struct ModuleTypesBuilder {
 impl Model for ModuleTypesBuilder {
     ghost use Rattle.std.specs.Prelude.{◌≡◌, false};
     ghost use Rattle.module_types.specs.MappedTypes.{entries_of, mapped_keys};
-    ghost use Rattle.module_types.specs.Interner.{IsSound, built};
+    ghost use Rattle.module_types.specs.Interner.{InternerIsSound, built};
     ghost use Rattle.module_types.specs.Listed.{MayBeListed};
     ghost use Rattle.module_types.specs.Builder.{BuilderState};
 
@@ -61,7 +61,7 @@ impl Model for ModuleTypesBuilder {
       is_poisoned = b.poisoned;
     } };
 
-    ghost invariant = { λ b. b.poisoned ≡ false → IsSound b.interner × MayBeListed (built b.interner) };
+    ghost invariant = { λ b. b.poisoned ≡ false → InternerIsSound b.interner × MayBeListed (built b.interner) };
 }
 
 impl ModuleTypesBuilder {

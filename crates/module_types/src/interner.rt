@@ -11,7 +11,7 @@ ghost use Rattle.module_types.specs.Views.{called_of, interned_of, field_at};
 ghost use Rattle.module_types.specs.Builder.{is_function};
 ghost use Rattle.module_types.specs.Conversion.{interned_members};
 ghost use Rattle.module_types.specs.InTurn.{CanIntern};
-ghost use Rattle.module_types.specs.Interner.{built, holding, known, with_next_trampoline, FindsMapped, IsSound, IsTrampoline};
+ghost use Rattle.module_types.specs.Interner.{built, holding, known, with_next_trampoline, FindsMapped, InternerIsSound, IsTrampoline};
 ghost use Rattle.module_types.specs.Listed.{MayBeListed};
 ghost use Rattle.module_types.specs.MappedTypes.{digest_of};
 
@@ -106,9 +106,9 @@ impl Interner {
         trampoline: Option<ModuleInternedTypeIndex>,
     ) -> Result<(), OutOfMemory>
         requires room { length self.old.list.types < u32.MAX - 1 }
-        requires sound { IsSound self.old }
+        requires sound { InternerIsSound self.old }
         ensures built { OnOk result (built self.new ≡ alone (built self.old) (interned_of ty) (option_map number_of trampoline)) }
-        ensures sound { OnOk result (IsSound self.new) }
+        ensures sound { OnOk result (InternerIsSound self.new) }
         ensures types { OnOk result (self.new.list.types ≡ self.old.list.types ++ ty ∷ []) }
         ensures mapped { self.new.mapped_types ≡ self.old.mapped_types }
     {
@@ -143,7 +143,7 @@ impl Interner {
     ) -> Result<(), OutOfMemory>
         requires in_range { number_of ty < length self.old.list.types }
         requires room { length self.old.list.types < u32.MAX - 1 }
-        requires sound { IsSound self.old }
+        requires sound { InternerIsSound self.old }
         requires mapped { trampoline_of mapped ≡ mapped }
         requires digest { digest ≡ digest_of self.old.mapped_types.hasher mapped }
         ensures built { OnOk result (built self.new ≡ with_next_trampoline (built self.old) (number_of ty) (called_of mapped)) }
@@ -162,7 +162,7 @@ impl Interner {
         ty: ModuleInternedTypeIndex,
     ) -> Result<(), OutOfMemory>
         requires in_range { number_of ty < length self.old.list.types }
-        requires sound { IsSound self.old }
+        requires sound { InternerIsSound self.old }
         requires room { length (assign_trampoline (built self.old) (number_of ty) (composite_at (built self.old).types (number_of ty))).types < u32.MAX }
         ensures built { OnOk result (built self.new ≡ assign_trampoline (built self.old) (number_of ty) (composite_at (built self.old).types (number_of ty))) }
         ensures found { OnOk result (FindsMapped self.new) }
@@ -184,10 +184,10 @@ impl Interner {
     // Gives each of the types from an index on its trampoline.
     fn assign_trampolines(&mut self, alloc: Global, first: usize) -> Result<(), OutOfMemory>
         requires in_range { first ≤ length self.old.list.types }
-        requires sound { IsSound self.old }
+        requires sound { InternerIsSound self.old }
         requires room { length (assign_trampolines (built self.old) first (drop first (built self.old).types)).types < u32.MAX }
         ensures built { OnOk result (built self.new ≡ assign_trampolines (built self.old) first (drop first (built self.old).types)) }
-        ensures sound { OnOk result (IsSound self.new) }
+        ensures sound { OnOk result (InternerIsSound self.new) }
     {
         for i in first..self.list.len_types() {
             self.assign_trampoline(alloc, ModuleInternedTypeIndex::new(i))?;
@@ -205,10 +205,10 @@ impl Interner {
         id: RecGroupId,
     ) -> Result<(), OutOfMemory>
         requires can { CanIntern types.now (holding (built self.old) ids.now) id.0 }
-        requires sound { IsSound self.old }
+        requires sound { InternerIsSound self.old }
         requires room { length (with_group (built self.old) (interned_members types.now (holding (built self.old) ids.now) id.0)).types < u32.MAX }
         ensures built { OnOk result (built self.new ≡ with_group (built self.old) (interned_members types.now (holding (built self.old) ids.now) id.0)) }
-        ensures sound { OnOk result (IsSound self.new) }
+        ensures sound { OnOk result (InternerIsSound self.new) }
         ensures listed { OnOk result (MayBeListed (built self.old) → MayBeListed (built self.new)) }
     {
         let next = self.list.next_ty();
@@ -244,10 +244,10 @@ impl Interner {
     ) -> Result<(), OutOfMemory>
         requires in_range { number_of function < length self.old.list.types }
         requires function { IsTrue (is_function (composite_at (built self.old).types (number_of function))) }
-        requires sound { IsSound self.old }
+        requires sound { InternerIsSound self.old }
         requires room { length self.old.list.types < u32.MAX - 1 }
         ensures built { OnOk result (built self.new ≡ with_exception (built self.old) (number_of function)) }
-        ensures sound { OnOk result (IsSound self.new) }
+        ensures sound { OnOk result (InternerIsSound self.new) }
     {
         let WasmCompositeInnerType::Func(func) = &self.list[function].composite_type.inner else {
             unreachable!()
@@ -269,10 +269,10 @@ impl Interner {
 
     /// Appends the startup type.
     pub(crate) fn push_startup(&mut self, alloc: Global) -> Result<(), OutOfMemory>
-        requires sound { IsSound self.old }
+        requires sound { InternerIsSound self.old }
         requires room { length self.old.list.types < u32.MAX - 1 }
         ensures built { OnOk result (built self.new ≡ with_startup (built self.old) true) }
-        ensures sound { OnOk result (IsSound self.new) }
+        ensures sound { OnOk result (InternerIsSound self.new) }
     {
         let ty = WasmFuncType::from_types(Vec::new(alloc), 0);
         self.push_alone(plain_function(ty), None)

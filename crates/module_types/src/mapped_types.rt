@@ -6,7 +6,7 @@ ghost use Rattle.wasm_types.specs.declared.func.WasmFuncType.{WasmFuncType};
 ghost use Rattle.wasm_types.specs.Trampolines.{trampoline_of};
 ghost use Rattle.wasm_types.specs.Views.{func_in};
 ghost use Rattle.module_types.specs.TypeParts.{part_at};
-ghost use Rattle.module_types.specs.MappedTypes.{digest_of, newest_of, mapped_at, IsLinked, IsNoted};
+ghost use Rattle.module_types.specs.MappedTypes.{digest_of, newest_of, mapped_at, AreFoundByDigest, IsNoted};
 
 use crate::list::ModuleTypes;
 use crate::mapped::is_mapped;
@@ -40,7 +40,7 @@ impl MappedTypes {
     /// No type is recorded. Digests begin from the seed.
     pub(crate) fn new(alloc: Global, seed: u64) -> MappedTypes
         ensures none { result.types.items ≡ [] }
-        ensures linked { (types : List WasmSubType) → IsLinked types result }
+        ensures linked { (types : List WasmSubType) → AreFoundByDigest types result }
     {
         let hasher = Seeded::new(seed);
         MappedTypes {
@@ -67,7 +67,7 @@ impl MappedTypes {
         digest: u64,
         func: &WasmFuncType,
     ) -> Option<ModuleInternedTypeIndex>
-        requires linked { IsLinked list.now.types self.now }
+        requires linked { AreFoundByDigest list.now.types self.now }
         requires digest { digest ≡ digest_of self.now.hasher (trampoline_of func.now) }
         ensures { result ≡ mapped_at list.now.types self.now (trampoline_of func.now) }
     {
@@ -88,7 +88,7 @@ impl MappedTypes {
         digest: u64,
         ty: ModuleInternedTypeIndex,
     ) -> Result<(), OutOfMemory>
-        ensures { OnOk result ((types : List WasmSubType) (f : WasmFuncType) → IsLinked types self.old → part_at func_in types ty ≡ Some f
+        ensures { OnOk result ((types : List WasmSubType) (f : WasmFuncType) → AreFoundByDigest types self.old → part_at func_in types ty ≡ Some f
             → digest ≡ digest_of self.old.hasher f → IsNoted types self.old self.new f ty) }
     {
         // A list has fewer types, and none is recorded twice, so this never happens.

@@ -15,7 +15,7 @@ use Rattle.custom_sections.specs.CutNames.{tells_nothing, elements_told, vector_
 use Rattle.custom_sections.proofs.NameSpellings.{made, ReadsAgain, vector_again, naming_again, local_again}
 use Rattle.custom_sections.proofs.OnlyTold.{Only, only_all, only_made, only_is, Whole, Cut, front_only, cut_only, elements_only, vector_only, vector_spelled}
 use Rattle.custom_sections.proofs.Namings.{naming_step, namings_only, local_step, filled_is, all_of, made_of, Sized, sized_front, sized_whole, sized_found}
-use Rattle.name_maps.specs.Entries.{Entry, map_entries, indirect_entries, module_entry, all_entries}
+use Rattle.name_maps.specs.Entries.{NameMapEntry, map_entries, indirect_entries, module_entry, all_entries}
 use Rattle.name_maps.specs.NameMaps.{is_indirect, has_map, subsection_contents, subsection, cut_contents, cut_subsection, subsections_told, name_section}
 use Rattle.name_maps.specs.Reading.{left_of, module_read, map_read, indirect_read, contents_read, subsection_and, sized_read, subsection_before, subsections_before, entries_behind, section_entries}
 
@@ -25,18 +25,18 @@ vector_fills : {A : Type 0} (p : Partly A) (g : Part A) → ReadsAgain p g → (
     → vector_before p bytes ≡ (xs, Some [])
 vector_fills p g again bytes xs s = ap (vector_before p) (sym (append-nil bytes)) ∙ vector_again p g again bytes xs [] s
 
-abbrev with_true : List Entry → List Entry × Bool
+abbrev with_true : List NameMapEntry → List NameMapEntry × Bool
 with_true entries = (entries, true)
 
 module _ (id : ℕ) (contents : List ℕ) where
-  abbrev Part_of : Bool → Bool → Bool → Part (List Entry)
+  abbrev Part_of : Bool → Bool → Bool → Part (List NameMapEntry)
   Part_of a b c =
       choose a (name >>= λ text. gives (module_entry id text ∷ []))
       (choose b (vector local_naming >>= λ maps. gives (indirect_entries id maps))
       (choose c (name_map >>= λ names. gives (map_entries id names))
       (all_bytes_as (λ bytes. []))))
 
-  abbrev read_as : Bool → Bool → Bool → List Entry × Bool
+  abbrev read_as : Bool → Bool → Bool → List NameMapEntry × Bool
   read_as a b c = cond a (module_read id (whole name_at contents)) (cond b (indirect_read id (vector_before locals_before contents))
       (cond c (map_read id (names_before contents)) ([], true)))
 
@@ -57,7 +57,7 @@ module _ (id : ℕ) (contents : List ℕ) where
       (all_of name_map (names_before contents).0 contents f.0 f.1 f.2)
   contents_spelled false false false t = refl
 
-  contents_again : (a b c : Bool) (x : List Entry) → (Part_of a b c).spells contents x → read_as a b c ≡ (x, true)
+  contents_again : (a b c : Bool) (x : List NameMapEntry) → (Part_of a b c).spells contents x → read_as a b c ≡ (x, true)
   contents_again true b c x t =
       let m = made name (λ text. module_entry id text ∷ []) contents x t in
       ap (module_read id) ((whole_fills name_agrees).again contents m.0 m.1) ∙ ap with_true (sym m.2)
@@ -69,14 +69,14 @@ module _ (id : ℕ) (contents : List ℕ) where
       ap (map_read id) (vector_fills naming_before naming naming_again contents m.0 m.1) ∙ ap with_true (sym m.2)
   contents_again false false false x t = ap with_true (sym t)
 
-  abbrev Cut_of : Bool → Bool → Bool → Part (List Entry)
+  abbrev Cut_of : Bool → Bool → Bool → Part (List NameMapEntry)
   Cut_of a b c =
       choose a tells_nothing
       (choose b (vector_told local_naming cut_local_naming >>= λ maps. gives (indirect_entries id maps))
       (choose c (namings_told >>= λ names. gives (map_entries id names)) tells_nothing))
 
   -- what a subsection with a fault tells
-  abbrev cut_as : Bool → Bool → Bool → List Entry
+  abbrev cut_as : Bool → Bool → Bool → List NameMapEntry
   cut_as a b c = cond a [] (cond b (indirect_entries id (vector_before locals_before contents).0) (cond c (map_entries id (names_before contents).0) []))
 
   cut_told : (a b c : Bool) → Only (Cut_of a b c) contents (cut_as a b c)
@@ -99,10 +99,10 @@ module _ (id : ℕ) (contents : List ℕ) where
 
 -- ---- subsections
 
-abbrev Some_of : List Entry → Option (List ℕ) → Option (List Entry) × Option (List ℕ)
+abbrev Some_of : List NameMapEntry → Option (List ℕ) → Option (List NameMapEntry) × Option (List ℕ)
 Some_of entries rest = (Some entries, rest)
 
-read_again : (id : ℕ) (contents : List ℕ) (x : List Entry) → (subsection_contents id).spells contents x → contents_read id contents ≡ (x, true)
+read_again : (id : ℕ) (contents : List ℕ) (x : List NameMapEntry) → (subsection_contents id).spells contents x → contents_read id contents ≡ (x, true)
 unfolding contents_read
 read_again id contents x s = contents_again id contents (id == 0) (is_indirect id) (has_map id) x s
 
@@ -119,27 +119,27 @@ read_cut id contents t = cut_is id contents (id == 0) (is_indirect id) (has_map 
 subsection_again : ReadsAgain subsection_before subsection
 subsection_again front x rest s =
     let f = sized_front subsection_contents front x rest s in
-    ap sized_read f.2 ∙ ap (λ (r : List Entry × Bool). subsection_and r rest) (read_again f.0 f.1 x f.3)
+    ap sized_read f.2 ∙ ap (λ (r : List NameMapEntry × Bool). subsection_and r rest) (read_again f.0 f.1 x f.3)
 
 -- what is told of a subsection with a fault
-abbrev cut_entries : ℕ → List ℕ → List Entry
+abbrev cut_entries : ℕ → List ℕ → List NameMapEntry
 cut_entries id contents = cut_as id contents (id == 0) (is_indirect id) (has_map id)
 
-abbrev cut_sized : Result Sized Fault → Option (List Entry × List ℕ)
+abbrev cut_sized : Result Sized Fault → Option (List NameMapEntry × List ℕ)
 cut_sized (Ok x) = Some (cut_entries x.0.0 x.0.1, x.1)
 cut_sized (Err fault) = None
 
-abbrev cut_at : List ℕ → Option (List Entry × List ℕ)
+abbrev cut_at : List ℕ → Option (List NameMapEntry × List ℕ)
 cut_at bytes = cut_sized (sized_subsection_at bytes)
 
-abbrev cut_part : Part (List Entry)
+abbrev cut_part : Part (List NameMapEntry)
 cut_part = first_byte (λ id. sized (cut_contents id))
 
-cut_again : (front : List ℕ) (x : List Entry) (rest : List ℕ) → cut_part.spells front x → cut_at (front ++ rest) ≡ Some (x, rest)
+cut_again : (front : List ℕ) (x : List NameMapEntry) (rest : List ℕ) → cut_part.spells front x → cut_at (front ++ rest) ≡ Some (x, rest)
 cut_again front x rest s =
     let f = sized_front cut_contents front x rest s in
     let told = (cut_told f.0 f.1 (f.0 == 0) (is_indirect f.0) (has_map f.0)).only x f.3 in
-    ap cut_sized f.2 ∙ ap (λ (y : List Entry). let r : Option (List Entry × List ℕ) = Some (y, rest) in r) (sym told)
+    ap cut_sized f.2 ∙ ap (λ (y : List NameMapEntry). let r : Option (List NameMapEntry × List ℕ) = Some (y, rest) in r) (sym told)
 
 abbrev Next : List ℕ → Type 0
 Next bytes = Whole subsection_before subsection bytes ⊎ Cut subsection_before cut_subsection bytes
@@ -148,7 +148,7 @@ module _ (bytes : List ℕ) (id : ℕ) (contents rest : List ℕ) (e : sized_sub
   front_is : (front : List ℕ) × (bytes ≡ id ∷ front ++ rest) × counted_bytes.spells front contents
   front_is = sized_found bytes id contents rest e
 
-  abbrev entries : List Entry
+  abbrev entries : List NameMapEntry
   entries = (contents_read id contents).0
 
   whole_next : (contents_read id contents).1 ≡ true → Whole subsection_before subsection bytes
@@ -168,7 +168,7 @@ module _ (bytes : List ℕ) (id : ℕ) (contents rest : List ℕ) (e : sized_sub
       record {
         value = Some entries;
         reads = ap sized_read e ∙ ap (λ b. Some_of entries (left_of b rest)) t;
-        told = only_is cut_subsection bytes (cut ∷ []) (entries ∷ []) (ap (λ (l : List Entry). l ∷ []) (read_cut id contents t))
+        told = only_is cut_subsection bytes (cut ∷ []) (entries ∷ []) (ap (λ (l : List NameMapEntry). l ∷ []) (read_cut id contents t))
             (front_only cut_at cut_part cut_again (λ entries. all_bytes_as (λ rest. entries ∷ [])) tells_nothing
             bytes (id ∷ front_is.0) rest cut (cut ∷ []) front_is.1 is (only_all (λ rest. cut ∷ []) rest));
       }

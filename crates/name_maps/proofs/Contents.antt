@@ -7,7 +7,7 @@ use Rattle.form_reader.specs.Reading.{whole}
 use Rattle.form_reader.specs.ReadingNumbers.{name_at}
 use Rattle.custom_sections.specs.NameReading.{names_before, locals_before, vector_before, sized_subsection_at}
 use Rattle.form_reader.proofs.Taken.{was_read, was_not_read}
-use Rattle.name_maps.specs.Entries.{Entry, module_entry}
+use Rattle.name_maps.specs.Entries.{NameMapEntry, module_entry}
 use Rattle.name_maps.specs.NameMaps.{is_indirect}
 use Rattle.name_maps.specs.Reading.{left_of, contents_read, module_read, map_read, indirect_read, sized_read, subsection_before}
 
@@ -36,18 +36,18 @@ module _ (id : ℕ) (contents : List ℕ) where
 
 -- ---- what is added, and whether there was no fault
 
-pub nothing_more : (now : List Entry) (read : List Entry × Bool) (filled : Bool) → read ≡ ([], filled) → now ≡ now ++ read.0
-nothing_more now read filled e = sym (append-nil now) ∙ ap (λ (r : List Entry × Bool). now ++ r.0) (sym e)
+pub nothing_more : (now : List NameMapEntry) (read : List NameMapEntry × Bool) (filled : Bool) → read ≡ ([], filled) → now ≡ now ++ read.0
+nothing_more now read filled e = sym (append-nil now) ∙ ap (λ (r : List NameMapEntry × Bool). now ++ r.0) (sym e)
 
-pub added_as : (old now : List Entry) (read other : List Entry × Bool) → read ≡ other → now ≡ old ++ other.0 → now ≡ old ++ read.0
-added_as old now read other e is = is ∙ ap (λ (r : List Entry × Bool). old ++ r.0) (sym e)
+pub added_as : (old now : List NameMapEntry) (read other : List NameMapEntry × Bool) → read ≡ other → now ≡ old ++ other.0 → now ≡ old ++ read.0
+added_as old now read other e is = is ∙ ap (λ (r : List NameMapEntry × Bool). old ++ r.0) (sym e)
 
-pub filled_as : (read other : List Entry × Bool) → read ≡ other → other.1 ≡ read.1
-filled_as read other e = ap (λ (r : List Entry × Bool). r.1) (sym e)
+pub filled_as : (read other : List NameMapEntry × Bool) → read ≡ other → other.1 ≡ read.1
+filled_as read other e = ap (λ (r : List NameMapEntry × Bool). r.1) (sym e)
 
 -- ---- a subsection
 
-abbrev Some_of : List Entry → Option (List ℕ) → Option (List Entry) × Option (List ℕ)
+abbrev Some_of : List NameMapEntry → Option (List ℕ) → Option (List NameMapEntry) × Option (List ℕ)
 Some_of entries rest = (Some entries, rest)
 
 pub no_subsection : (bytes : List ℕ) → None ≡ result_ok (sized_subsection_at bytes) → subsection_before bytes ≡ (None, None)

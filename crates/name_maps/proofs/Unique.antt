@@ -15,7 +15,7 @@ use Rattle.custom_sections.proofs.OnlyTold.{Only, only_all}
 use Rattle.refusal_place.specs.declared.section_list.SectionPlace.{SectionPlace}
 use Rattle.refusal_place.specs.SectionList.{AreSections, HasName, IsSectionList, ListsAll, name_of}
 use Rattle.refusal_place.proofs.SectionsComplete.{same_section}
-use Rattle.name_maps.specs.Entries.{Entry}
+use Rattle.name_maps.specs.Entries.{NameMapEntry}
 use Rattle.name_maps.specs.NameMaps.{name_section}
 use Rattle.name_maps.specs.Told.{contents_of, is_named, section_told, SectionsTell, TellsNames}
 use Rattle.name_maps.specs.Reading.{section_entries}
@@ -23,10 +23,10 @@ use Rattle.name_maps.proofs.AsRead.{section_only}
 use Rattle.name_maps.proofs.Placed.{IsPart, Headed, is_headed, listed_in}
 
 -- the entries that are read of a section
-abbrev pub entries_if : Bool → List ℕ → List Entry
+abbrev pub entries_if : Bool → List ℕ → List NameMapEntry
 entries_if named contents = cond named (section_entries contents) []
 
-abbrev pub entries_at : List ℕ → SectionPlace → List Entry
+abbrev pub entries_at : List ℕ → SectionPlace → List NameMapEntry
 entries_at bytes p = entries_if (is_named (name_of p)) (contents_of bytes p)
 
 module _ (p : SectionPlace) (inside : List ℕ) (long : length inside ≡ p.size) where
@@ -53,11 +53,11 @@ module _ (bytes : List ℕ) where
     sections_told ps (All-tail (IsPart bytes) p ps are),
   )
 
-  sections_only : (ps : List SectionPlace) (entries : List Entry) → All (IsPart bytes) ps → SectionsTell bytes ps entries → entries ≡ flat_map (entries_at bytes) ps
+  sections_only : (ps : List SectionPlace) (entries : List NameMapEntry) → All (IsPart bytes) ps → SectionsTell bytes ps entries → entries ≡ flat_map (entries_at bytes) ps
   sections_only [] entries are e = e
   sections_only (p ∷ ps) entries are (front, back, parts, s, more) =
-      parts ∙ ap (λ (l : List Entry). l ++ back) ((told_only p (All-head (IsPart bytes) p ps are)).only front s)
-      ∙ ap (λ (l : List Entry). entries_at bytes p ++ l) (sections_only ps back (All-tail (IsPart bytes) p ps are) more)
+      parts ∙ ap (λ (l : List NameMapEntry). l ++ back) ((told_only p (All-head (IsPart bytes) p ps are)).only front s)
+      ∙ ap (λ (l : List NameMapEntry). entries_at bytes p ++ l) (sections_only ps back (All-tail (IsPart bytes) p ps are) more)
 
 -- ---- a section has one name
 
@@ -73,7 +73,7 @@ same_name id contents (Some text) (Some other) (custom, (front, rest, parts, s))
 
 -- ---- two lists of the sections
 
-abbrev entries_of : List ℕ → ℕ → ℕ → Option (List ℕ) → List Entry
+abbrev entries_of : List ℕ → ℕ → ℕ → Option (List ℕ) → List NameMapEntry
 entries_of bytes start size title = entries_if (is_named title) (take size (drop start bytes))
 
 same_entries : (bytes : List ℕ) (ps qs : List SectionPlace) (start begin : ℕ) (rest : List ℕ) → start ≡ begin → AreSections start rest ps
@@ -90,8 +90,8 @@ same_entries bytes (p ∷ ps) (q ∷ qs) start begin rest e (later, s, more) (af
     ap (λ n. entries_of bytes n p.size (name_of p)) begins ∙ ap (λ n. entries_of bytes q.contents n (name_of p)) sized
     ∙ ap (entries_of bytes q.contents q.size) titled in
     let there : AreSections (p.contents + p.size) after ps = subst (λ (l : List ℕ). AreSections (p.contents + p.size) l ps) same.3 more in
-    ap (λ (l : List Entry). l ++ flat_map (entries_at bytes) ps) now
-    ∙ ap (λ (l : List Entry). entries_at bytes q ++ l)
+    ap (λ (l : List NameMapEntry). l ++ flat_map (entries_at bytes) ps) now
+    ∙ ap (λ (l : List NameMapEntry). entries_at bytes q ++ l)
     (same_entries bytes ps qs (p.contents + p.size) (q.contents + q.size) after (omega (arith, begins, sized)) there others)
 
 same_listed : (bytes : List ℕ) (ps qs : List SectionPlace) → IsSectionList bytes ps → IsSectionList bytes qs
@@ -104,7 +104,7 @@ same_listed bytes ps qs are also = by (is_headed bytes) where
 -- ---- the entries of the input
 
 module _ (bytes : List ℕ) (places : List SectionPlace) (listed : IsSectionList bytes places) where
-  pub names_told : ListsAll bytes places → (entries : List Entry) → entries ≡ flat_map (entries_at bytes) places → TellsNames bytes entries
+  pub names_told : ListsAll bytes places → (entries : List NameMapEntry) → entries ≡ flat_map (entries_at bytes) places → TellsNames bytes entries
   names_told all entries e = record {
     places = places;
     listed = listed;
@@ -112,14 +112,14 @@ module _ (bytes : List ℕ) (places : List SectionPlace) (listed : IsSectionList
     told = subst (SectionsTell bytes places) (sym e) (sections_told bytes places (listed_in bytes places listed));
   }
 
-  pub names_only : (entries : List Entry) → entries ≡ flat_map (entries_at bytes) places → (other : List Entry) → TellsNames bytes other → other ≡ entries
+  pub names_only : (entries : List NameMapEntry) → entries ≡ flat_map (entries_at bytes) places → (other : List NameMapEntry) → TellsNames bytes other → other ≡ entries
   names_only entries e other t =
       sections_only bytes t.places other (listed_in bytes t.places t.listed) t.told ∙ same_listed bytes t.places places t.listed listed ∙ sym e
 
 -- ---- one section after another
 
-module _ (bytes : List ℕ) (p : SectionPlace) (now : List Entry) where
-  pub named_added : (inside : List ℕ) (entries : List Entry) → is_named (name_of p) ≡ true → inside ≡ contents_of bytes p
+module _ (bytes : List ℕ) (p : SectionPlace) (now : List NameMapEntry) where
+  pub named_added : (inside : List ℕ) (entries : List NameMapEntry) → is_named (name_of p) ≡ true → inside ≡ contents_of bytes p
       → entries ≡ now ++ section_entries inside → entries ≡ now ++ entries_at bytes p
   named_added inside entries t is e =
       e ∙ ap (λ (l : List ℕ). now ++ section_entries l) is ∙ ap (λ b. now ++ entries_if b (contents_of bytes p)) (sym t)
@@ -127,11 +127,11 @@ module _ (bytes : List ℕ) (p : SectionPlace) (now : List Entry) where
   pub other_added : is_named (name_of p) ≡ false → now ≡ now ++ entries_at bytes p
   other_added t = sym (append-nil now) ∙ ap (λ b. now ++ entries_if b (contents_of bytes p)) (sym t)
 
-module _ (bytes : List ℕ) (places : List SectionPlace) (i : ℕ) (now : List Entry) (so_far : now ≡ flat_map (entries_at bytes) (take i places)) where
-  pub next_section : (d : SectionPlace) (after : List Entry) → i < length places → after ≡ now ++ entries_at bytes (get_or places i d)
+module _ (bytes : List ℕ) (places : List SectionPlace) (i : ℕ) (now : List NameMapEntry) (so_far : now ≡ flat_map (entries_at bytes) (take i places)) where
+  pub next_section : (d : SectionPlace) (after : List NameMapEntry) → i < length places → after ≡ now ++ entries_at bytes (get_or places i d)
       → after ≡ flat_map (entries_at bytes) (take (i + 1) places)
   next_section d after lt e =
-      e ∙ ap (λ (l : List Entry). l ++ entries_at bytes (get_or places i d)) so_far
+      e ∙ ap (λ (l : List NameMapEntry). l ++ entries_at bytes (get_or places i d)) so_far
       ∙ flat_map_more (entries_at bytes) [] (take i places) (get_or places i d)
       ∙ ap (flat_map (entries_at bytes)) (sym (take_more places i d lt))
 

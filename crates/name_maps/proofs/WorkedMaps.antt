@@ -13,7 +13,7 @@ use Rattle.custom_sections.specs.NameReading.{elements_before, vector_before, na
 use Rattle.custom_sections.proofs.WorkedNames.{one_char}
 use Rattle.refusal_place.specs.declared.section_list.SectionPlace.{SectionPlace}
 use Rattle.refusal_place.specs.SectionList.{fields_of}
-use Rattle.name_maps.specs.Entries.{Entry}
+use Rattle.name_maps.specs.Entries.{NameMapEntry}
 use Rattle.name_maps.specs.NameMaps.{subsections_told, name_section}
 use Rattle.name_maps.specs.Told.{is_named, SectionsTell}
 use Rattle.name_maps.specs.Reading.{left_of, contents_read, module_read, subsection_before, subsections_before}
@@ -33,7 +33,7 @@ unfolding whole raw_bytes_at unsigned_at found_at counted_bytes_at name_at
 module_read_as = rw (one_char 109 (lit< tt)) refl
 
 -- a subsection without a fault, and those after it
-one_read : (n : ℕ) (bytes : List ℕ) (x : List Entry) (rest : List ℕ) → subsection_before bytes ≡ (Some x, Some rest)
+one_read : (n : ℕ) (bytes : List ℕ) (x : List NameMapEntry) (rest : List ℕ) → subsection_before bytes ≡ (Some x, Some rest)
     → subsections_before (suc n) bytes ≡ x ++ subsections_before n rest
 unfolding elements_before
 one_read n bytes x rest e = rw e refl
@@ -41,7 +41,7 @@ one_read n bytes x rest e = rw e refl
 abbrev behind : List ℕ
 behind = 0x00 ∷ 0x02 ∷ 0x01 ∷ 0x6D ∷ []
 
-abbrev read_as : Result (List ℕ) Fault → Option (List Entry) × Option (List ℕ)
+abbrev read_as : Result (List ℕ) Fault → Option (List NameMapEntry) × Option (List ℕ)
 read_as r = (Some (module_read 0 r).0, left_of (module_read 0 r).1 [])
 
 is_skipped : subsection_before skipped_first ≡ (Some [], Some behind)
@@ -58,12 +58,12 @@ none_read = refl
 
 skipped_read : subsections_before 7 skipped_first ≡ of_module ∷ []
 skipped_read =
-    one_read 6 skipped_first [] behind is_skipped ∙ one_read 5 behind (of_module ∷ []) [] is_module ∙ ap (λ (l : List Entry). of_module ∷ l) none_read
+    one_read 6 skipped_first [] behind is_skipped ∙ one_read 5 behind (of_module ∷ []) [] is_module ∙ ap (λ (l : List NameMapEntry). of_module ∷ l) none_read
 
 pub global : (subsections_told 8).spells cut_globals (first_global ∷ [])
 global = subst (λ e. (subsections_told 8).spells cut_globals e) globals_read (subsections_only 8 cut_globals).spelled
 
-pub no_other : (entries : List Entry) → (subsections_told 8).spells cut_globals entries → entries ≡ first_global ∷ []
+pub no_other : (entries : List NameMapEntry) → (subsections_told 8).spells cut_globals entries → entries ≡ first_global ∷ []
 no_other entries told = (subsections_only 8 cut_globals).only entries told ∙ globals_read
 
 pub label : (subsections_told 9).spells cut_labels (first_label ∷ [])
@@ -109,7 +109,7 @@ section_spelled = record {
 abbrev Row : Type 0
 Row = ℕ × ℕ × ℕ × ℕ × Option (List ℕ)
 
-abbrev RowTells : List Entry → Row → Type 0
+abbrev RowTells : List NameMapEntry → Row → Type 0
 RowTells entries r = (choose (is_named r.4) (name_section r.3) tells_nothing).spells (take r.3 (drop r.2 named_bytes)) entries
 
 pub section : (p : SectionPlace) → fields_of p ≡ row_with (codes "name") → SectionsTell named_bytes (p ∷ []) (first_global ∷ [])
@@ -121,4 +121,4 @@ not_empty x xs e = absurd cc
 pub other_name : (p : SectionPlace) → fields_of p ≡ row_with (codes "nome") → ¬ SectionsTell named_bytes (p ∷ []) (first_global ∷ [])
 other_name p e (front, back, parts, told, none) =
     let nothing : front ≡ [] = subst (RowTells front) e told in
-    not_empty first_global [] (parts ∙ ap (λ (l : List Entry). l ++ back) nothing ∙ none)
+    not_empty first_global [] (parts ∙ ap (λ (l : List NameMapEntry). l ++ back) nothing ∙ none)

@@ -2,7 +2,7 @@
 
 ghost use Rattle.std.specs.Prelude.{◌≡◌, ◌≤◌, ◌+◌, length, map, List, IfOk};
 ghost use Rattle.refusal_place.specs.SectionList.{name_of};
-ghost use Rattle.name_maps.specs.Entries.{Entry, entry_of};
+ghost use Rattle.name_maps.specs.Entries.{NameMapEntry, entry_of};
 ghost use Rattle.name_maps.specs.Told.{TellsNames, contents_of, is_named};
 
 use crate::entry::NameEntry;
@@ -22,7 +22,7 @@ use std::alloc::Global;
 pub fn name_maps<'d>(alloc: Global, bytes: &'d [u8]) -> Result<Vec<NameEntry<'d>>, OutOfMemory>
     ensures told { IfOk result (λ entries. TellsNames bytes.now (map entry_of entries.items)) }
     // The bytes tell no other entries.
-    ensures only { IfOk result (λ entries. (other : List Entry) → TellsNames bytes.now other → other ≡ map entry_of entries.items) }
+    ensures only { IfOk result (λ entries. (other : List NameMapEntry) → TellsNames bytes.now other → other ≡ map entry_of entries.items) }
 {
     let places = section_places(alloc, bytes)?;
     let mut entries = Vec::new(alloc);

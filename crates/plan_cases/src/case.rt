@@ -75,7 +75,7 @@ pub struct DataBytes {
 
 /// Where bytes are refused: an offset, and the entry of a section, where one is wrong.
 #[derive(Clone, Copy, PartialEq, Eq)]
-pub struct Spot {
+pub struct RefusalSpot {
     pub byte: u64,
     pub entry: Option<u64>,
 }
@@ -87,7 +87,7 @@ pub enum At {
     Nowhere,
     /// Where they end, and no entry is wrong.
     End,
-    Spot(Spot),
+    Spot(RefusalSpot),
 }
 
 /// What a run must give.

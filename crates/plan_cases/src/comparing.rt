@@ -1,6 +1,6 @@
 //! What a run gave, compared with what it must give.
 
-use crate::case::{At, Case, DataBytes, Expected, LineCount, Spot};
+use crate::case::{At, Case, DataBytes, Expected, LineCount, RefusalSpot};
 use crate::running::{Outcome, Refusal};
 
 /// What differs from what is expected.
@@ -17,7 +17,7 @@ pub enum Difference<'a> {
     Data(u64),
     /// The bytes are refused elsewhere, or one of the two is nowhere.
     Place {
-        wanted: Option<Spot>,
+        wanted: Option<RefusalSpot>,
         found: Option<Refusal>,
     },
 }
@@ -98,9 +98,9 @@ fn wrong_end<'a>(expected: &'a Expected, outcome: &Outcome) -> Option<Difference
 }
 
 /// The spot of a refusal; an input and a context that are too large have none.
-fn spot_of(refusal: Refusal) -> Option<Spot> {
+fn spot_of(refusal: Refusal) -> Option<RefusalSpot> {
     match refusal {
-        Refusal::Unread(place) => Some(Spot {
+        Refusal::Unread(place) => Some(RefusalSpot {
             byte: u64::from(place.byte),
             entry: place.entry.map(u64::from),
         }),
@@ -112,18 +112,18 @@ fn spot_of(refusal: Refusal) -> Option<Spot> {
 }
 
 /// The spot of an entry.
-fn entry_spot(byte: u32, entry: u32) -> Spot {
-    Spot {
+fn entry_spot(byte: u32, entry: u32) -> RefusalSpot {
+    RefusalSpot {
         byte: u64::from(byte),
         entry: Some(u64::from(entry)),
     }
 }
 
 /// The spot at which the bytes must be refused, where they must be.
-fn wanted_spot(at: At, outcome: &Outcome) -> Option<Spot> {
+fn wanted_spot(at: At, outcome: &Outcome) -> Option<RefusalSpot> {
     match at {
         At::Nowhere => None,
-        At::End => Some(Spot {
+        At::End => Some(RefusalSpot {
             byte: outcome.read as u64,
             entry: None,
         }),

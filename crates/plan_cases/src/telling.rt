@@ -1,12 +1,12 @@
 //! What is printed of a case that failed.
 
-use crate::case::{Case, CaseError, Spot, words_of_error};
+use crate::case::{Case, CaseError, RefusalSpot, words_of_error};
 use crate::comparing::{Difference, text_of};
 use crate::running::{Outcome, Refusal};
 use std::io;
 
 /// Prints where the bytes must be refused.
-fn tell_wanted(rt: &HostRuntime, wanted: Option<Spot>) -> io::Result<()> {
+fn tell_wanted(rt: &HostRuntime, wanted: Option<RefusalSpot>) -> io::Result<()> {
     let Some(spot) = wanted else {
         return println!(rt; "wanted: no place");
     };

@@ -6,7 +6,7 @@ use Rattle.form_reader.proofs.SectionLaws.{module_once}
 use Rattle.module_environ.specs.Readable.{IsReadable}
 use Rattle.rule_breaks.specs.declared.lists.Break.{Break}
 use Rattle.rule_breaks.specs.declared.list_places.EntryPlace.{EntryPlace}
-use Rattle.rule_breaks.specs.ListPlaces.{IsPlacedAt, IsPlaceOf, LacksIfRead}
+use Rattle.rule_breaks.specs.ListPlaces.{IsPlacedAt, IsEntryPlaceOf, LacksIfRead}
 use Rattle.translate.specs.Options.{Options}
 use Rattle.translate.specs.Planned.{KeepsAnd}
 use Rattle.plan_excess.specs.declared.kinds.ExcessKind.{ExcessKind}
@@ -17,7 +17,7 @@ use Rattle.plan_excess.proofs.Causes.{placed-excess}
 pub placed-none : (bytes : List ℕ) (m : Module) (o : Option Break) → o ≡ None → IsPlaced bytes m o None
 placed-none bytes m o is = rw is refl
 
-pub placed-some : (bytes : List ℕ) (m : Module) (o : Option Break) (b : Break) (p : EntryPlace) → o ≡ Some b → IsReadable bytes m → IsPlaceOf bytes b p
+pub placed-some : (bytes : List ℕ) (m : Module) (o : Option Break) (b : Break) (p : EntryPlace) → o ≡ Some b → IsReadable bytes m → IsEntryPlaceOf bytes b p
     → IsPlaced bytes m o (Some p)
 placed-some bytes m o b p is read found =
     rw is (subst (λ (m : Module). IsPlacedAt bytes m b p) (module_once bytes found.of m found.spelled read.spelled) found.at)

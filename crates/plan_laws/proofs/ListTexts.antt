@@ -64,7 +64,7 @@ use Rattle.plan_lines.specs.TableLines.{table_image_lines, passive_element_line}
 use Rattle.plan_lines.specs.TypeLines.{listed_number, declared_line, signature_line, type_line}
 use Rattle.plan_lines.specs.TypeListLines.{type_lines_from, group_line, type_list_lines}
 use Rattle.plan_laws.specs.TextCosts.{type_parts, value_operators, place_operators, layout_fields, name_bytes, import_bytes, module_name_bytes}
-use Rattle.plan_laws.specs.Widths.{ImportFits, StartupFits, GlobalFits, FirstFits, InitialFits, ImageFits, ElementsFit, PassiveFits, MemoryFits, PlaceFits, SegmentFits, RangeFits, LayoutFits}
+use Rattle.plan_laws.specs.Widths.{ImportFits, StartupFits, GlobalFits, FirstFits, InitialFits, TableImageFits, ElementsFit, PassiveFits, MemoryFits, PlaceFits, SegmentFits, RangeFits, LayoutFits}
 use Rattle.plan_laws.proofs.Lengths.{decimal-narrow, decimal-wide, append-short, flat-each, flat-short, keyed-plain, keyed-short, keyed-each}
 use Rattle.plan_laws.proofs.LineTexts.{one-number, two-numbers, three-numbers, type-line-short, import-short, export-short, module-name-short, function-name-short, global-short, global-expression-short, ends-with, image-short, passive-element-short, array-layout-short, fields-layout-short, region-short}
 
@@ -238,11 +238,11 @@ pub initial-lines-short : (values : List TableInitialValue) → length values < 
     → length (keyed_lines table_value_lines values) ≤ 128 * length values + 48 * sum_by value_operators values
 initial-lines-short values few all = keyed-short table_value_lines value_operators 128 48 InitialFits values few initial-short all
 
-pub image-lines-short : (images : List (Vec (Index FuncSpace))) → length images < 2 ^ 32 → All ImageFits images
+pub image-lines-short : (images : List (Vec (Index FuncSpace))) → length images < 2 ^ 32 → All TableImageFits images
     → length (keyed_lines (λ (table : Index DefinedTableSpace) (image : Vec (Index FuncSpace)). table_image_lines table image.items) images)
     ≤ 128 * length images + 11 * sum_by (λ (image : Vec (Index FuncSpace)). length image.items) images
 image-lines-short images few all =
-    keyed-short (λ (table : Index DefinedTableSpace) (image : Vec (Index FuncSpace)). table_image_lines table image.items) (λ (image : Vec (Index FuncSpace)). length image.items) 128 11 ImageFits
+    keyed-short (λ (table : Index DefinedTableSpace) (image : Vec (Index FuncSpace)). table_image_lines table image.items) (λ (image : Vec (Index FuncSpace)). length image.items) 128 11 TableImageFits
     images few (λ table image h fits. omega (arith, image-short table image.items h fits.count fits.cells)) all
 
 element-short : (s : TableSegment) → ElementsFit s → length (element_line s) ≤ 128 + 48 * length s.offset

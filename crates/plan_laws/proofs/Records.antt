@@ -10,7 +10,7 @@ use Rattle.std.proofs.lemmas.List.{length-map}
 use Rattle.entity_map.specs.Keyed.{keyed, keyed_from}
 use Rattle.type_spec.specs.ListLaws.{map-twice}
 use Rattle.wasm_spec.specs.Module.{Body}
-use Rattle.wasm_spec.specs.TypeData.{Value, Reference}
+use Rattle.wasm_spec.specs.TypeData.{ValueType, Reference}
 use Rattle.form_reader.specs.Views.{body_of}
 use Rattle.wasm_index.specs.declared.index.Index.{Index}
 use Rattle.wasm_index.specs.declared.spaces.FuncSpace.{FuncSpace}
@@ -36,7 +36,7 @@ use Rattle.init_plan.specs.declared.translation.RuntimeBytes.TheVariants as runt
 use Rattle.init_plan.specs.Views.{bytes_of}
 use Rattle.module_customs.specs.Names.{Text}
 use Rattle.module_sections.specs.Initialisers.{view_items, view_segment}
-use Rattle.module_environ.specs.Metadata.{FunctionData, view_function}
+use Rattle.module_environ.specs.Metadata.{ParamsAndLocals, view_function}
 use Rattle.vm_offsets.specs.Context.{context_entries, context_size, entry_named}
 use Rattle.vm_offsets.specs.Layouts.{pointer_of}
 use Rattle.vm_offsets.specs.Regions.{context_regions}
@@ -147,10 +147,10 @@ bodies-tell t u same r c = record {
 
 -- ---- for a debugger
 
-run_by : ℕ × Value Name → LocalsRow
+run_by : ℕ × ValueType Name → LocalsRow
 run_by run = metadata_run (run.0, value_back.back run.1)
 
-runs_by : FunctionData → List LocalsRow
+runs_by : ParamsAndLocals → List LocalsRow
 runs_by f = map run_by f.locals
 
 runs-by : (f : FunctionMetadata) → map metadata_run f.locals.items ≡ runs_by (view_function f)

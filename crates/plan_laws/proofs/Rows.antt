@@ -33,7 +33,7 @@ use Rattle.plan_tables.specs.Expressions.{TellsExpressions}
 use Rattle.plan_tables.specs.Facts.{entities_row}
 use Rattle.plan_tables.specs.Items.{TellsElementItems, functions_in, expressions_in, items_rows}
 use Rattle.plan_tables.specs.Kinds.{TellsKinds, memory_row, table_row, global_row, tag_row}
-use Rattle.plan_tables.specs.Names.{TellsNames, entity_kind, import_row, import_rows, import_names, export_rows, name_of, own_parts, own_name}
+use Rattle.plan_tables.specs.Names.{TellsModuleNames, entity_kind, import_row, import_rows, import_names, export_rows, name_of, own_parts, own_name}
 use Rattle.plan_tables.specs.Operators.{operator_row}
 use Rattle.plan_tables.specs.Spans.{spans_from}
 use Rattle.plan_tables.specs.Values.{ref_row}
@@ -122,7 +122,7 @@ module _ (x y : Module) (same : SameModule x y) where
   pub own-text : own_name x.strings x.name ≡ own_name y.strings y.name
   own-text = own-by x.strings x.name ∙ ap own_by same.name ∙ sym (own-by y.strings y.name)
 
-  pub names-tell : (r : PlanRecord) → TellsNames x r.names → TellsNames y r.names
+  pub names-tell : (r : PlanRecord) → TellsModuleNames x r.names → TellsModuleNames y r.names
   names-tell r c = record {
     imports = record { rows = c.imports.rows ∙ import-rows; names = c.imports.names ∙ import-texts };
     exports = record { rows = c.exports.rows ∙ export-rows; names = c.exports.names ∙ export-texts };

@@ -46,7 +46,7 @@ HasWidth (operand.IndexAndSize index size) = (index < 2 ^ 32) × (size < 2 ^ 32)
 HasWidth o = Unit {0}
 
 -- the text of an expression is as long as its operators allow
-pub record IsShort (e : List ConstOp) : Type 0 where
+pub record IsShortExpression (e : List ConstOp) : Type 0 where
   pub short : length (expression_text e) ≤ 47 * length e
 
 abbrev pub ImportFits : Initializer → Type 0
@@ -70,22 +70,22 @@ pub record GlobalFits (g : Index DefinedGlobalSpace × GlobalConstValue) : Type 
 
 pub record FirstFits (g : Index DefinedGlobalSpace × List ConstOp) : Type 0 where
   pub index : number_of g.0 < 2 ^ 32
-  pub value : IsShort g.1
+  pub value : IsShortExpression g.1
 
 -- the first value of a table
 abbrev pub InitialFits : TableInitialValue → Type 0
 InitialFits initial.Null = Unit {0}
-InitialFits (initial.Expr e) = IsShort e
+InitialFits (initial.Expr e) = IsShortExpression e
 
 -- the image of a table
-pub record ImageFits (image : Vec (Index FuncSpace)) : Type 0 where
+pub record TableImageFits (image : Vec (Index FuncSpace)) : Type 0 where
   pub count : length image.items < 2 ^ 64
   pub cells : All (λ f. number_of f < 2 ^ 32) image.items
 
 pub record ElementsFit (s : TableSegment) : Type 0 where
   pub table : number_of s.table_index < 2 ^ 32
   pub count : element_count s.elements < 2 ^ 64
-  pub place : IsShort s.offset
+  pub place : IsShortExpression s.offset
 
 pub record PassiveFits (e : WasmRefType × ℕ) : Type 0 where
   pub type : length (ref_text e.0) ≤ 39
@@ -98,7 +98,7 @@ MemoryFits (Some image) = (image.0 < 2 ^ 64) × (number_of image.1 < 2 ^ 32)
 
 -- the place of a data segment
 abbrev pub PlaceFits : MemorySegmentOffset → Type 0
-PlaceFits (offset.Expr e) = IsShort e
+PlaceFits (offset.Expr e) = IsShortExpression e
 PlaceFits (offset.Static place) = place < 2 ^ 64
 
 pub record SegmentFits (s : Index MemorySpace × MemorySegmentOffset × Index RuntimeDataSpace) : Type 0 where

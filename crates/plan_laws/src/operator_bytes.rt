@@ -2,7 +2,7 @@
 
 ghost use Rattle.std.specs.Prelude.{◌≤◌, All, length};
 ghost use Rattle.plan_lines.specs.Expressions.{operator_text};
-ghost use Rattle.plan_laws.specs.Widths.{HasWidth, IsShort};
+ghost use Rattle.plan_laws.specs.Widths.{HasWidth, IsShortExpression};
 
 use crate::type_bytes::heap;
 use wasm_convert::{ConstExpr, ConstOp, Operands};
@@ -44,7 +44,7 @@ fn operators(operators: &[ConstOp])
 
 /// An expression, at 47 bytes for each operator.
 pub(crate) fn expression(expression: &ConstExpr)
-    ensures { IsShort expression.now }
+    ensures { IsShortExpression expression.now }
 {
     operators(expression.ops());
 }

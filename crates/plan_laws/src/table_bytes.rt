@@ -8,7 +8,7 @@ ghost use Rattle.plan_lines.specs.Numbers.{keyed_lines};
 ghost use Rattle.plan_lines.specs.SegmentLines.{table_value_lines, element_line};
 ghost use Rattle.plan_lines.specs.TableLines.{table_image_lines, passive_element_line};
 ghost use Rattle.plan_laws.specs.TextCosts.{value_operators};
-ghost use Rattle.plan_laws.specs.Widths.{ValueFits, GlobalFits, FirstFits, InitialFits, ImageFits, ElementsFit, PassiveFits};
+ghost use Rattle.plan_laws.specs.Widths.{ValueFits, GlobalFits, FirstFits, InitialFits, TableImageFits, ElementsFit, PassiveFits};
 
 use crate::operator_bytes::expression;
 use crate::type_bytes::reference;
@@ -112,14 +112,14 @@ fn cells(cells: &[FuncIndex])
 }
 
 fn image(image: &Vec<FuncIndex>)
-    ensures { ImageFits image.now }
+    ensures { TableImageFits image.now }
 {
     let _count = image.len();
     cells(image.as_slice());
 }
 
 fn each_image(images: &[Vec<FuncIndex>])
-    ensures { All ImageFits images.now }
+    ensures { All TableImageFits images.now }
 {
     for each in images {
         image(each);

@@ -1,7 +1,7 @@
 -- How many types are live once a module is registered.
 use Rattle.std.proofs.Common.{◌≡◌, ◌≤◌, ◌+◌, ℕ, List, [], ◌∷◌, length, map, inl, inr, refl, arith}
 use Rattle.std.proofs.lemmas.List.{length-map}
-use Rattle.type_spec.specs.Interned.{Span}
+use Rattle.type_spec.specs.Interned.{GroupSpan}
 use Rattle.module_types.specs.Orderly.{LieBetween}
 use Rattle.module_types.specs.TypeList.{TypeList}
 use Rattle.module_types.specs.Views.{span_of, interned_of}
@@ -18,12 +18,12 @@ abbrev members : Plan → ℕ
 members p = length (indices_of p.fresh)
 
 -- a group adds its own types at most
-group-adds : (gs : Groups) (l : TypeList) (p : Plan) (s : Span) → members (plan_group gs l p s) ≤ members p + size_of s
+group-adds : (gs : Groups) (l : TypeList) (p : Plan) (s : GroupSpan) → members (plan_group gs l p s) ≤ members p + size_of s
 group-adds gs l p s =
     either-planned gs l p s (λ q. members q ≤ members p + size_of s) (λ g is. omega arith)
     (λ none. omega (arith, next-length gs p.fresh (canonical_of l p.listed.indices s) (size_of s)))
 
-groups-add : (gs : Groups) (l : TypeList) (p : Plan) (ss : List Span) (first end : ℕ) → LieBetween first ss end
+groups-add : (gs : Groups) (l : TypeList) (p : Plan) (ss : List GroupSpan) (first end : ℕ) → LieBetween first ss end
     → members (plan_groups gs l p ss) + first ≤ members p + end
 groups-add gs l p [] first end lie = omega (arith, lie)
 groups-add gs l p (s ∷ ss) first end lie =

@@ -14,7 +14,7 @@ use Rattle.plan_run.specs.declared.value.Value.TheVariants as value
 use Rattle.plan_run.specs.declared.value.Node.{Node}
 use Rattle.wasm_convert.specs.Operators.{operator_of}
 use Rattle.plan_run.specs.Values.{value_in, values_in, imported_value, kept_term, term_of, terms_after, terms_of, NamesBelow, IsPlain, IsNodeAt, AreOrdered}
-use Rattle.plan_run.specs.Evaluation.{IsSound, Grows}
+use Rattle.plan_run.specs.Evaluation.{EvaluatorIsSound, Grows}
 use Rattle.plan_run.specs.Nodes.{Extends, Means, AllMean}
 use Rattle.plan_run.proofs.Lists.{get-append-low, get-append-high}
 
@@ -79,7 +79,7 @@ extends-same nodes = record { more = []; is = sym (append-nil nodes) }
 pub extends-on : {a b c : List Node} → Extends a b → Extends b c → Extends a c
 extends-on one two = record { more = one.more ++ two.more; is = grind (arith, append_assoc) }
 
-pub grows-same : (e : Evaluator) → IsSound e → Grows e e
+pub grows-same : (e : Evaluator) → EvaluatorIsSound e → Grows e e
 grows-same e sound = record { extends = extends-same e.nodes.items; sound = sound; globals = refl; values = refl; translation = refl; types = refl }
 
 pub grows-on : {a b c : Evaluator} → Grows a b → Grows b c → Grows a c
@@ -118,7 +118,7 @@ pub push-ordered : (nodes : List Node) (n : Node) → AreOrdered nodes → IsNod
 push-ordered nodes n ordered is k m at =
     grind (arith, cases_lt k (length nodes), ordered k m, get-append-low nodes (n ∷ []) k, slice_get_within (nodes ++ n ∷ []) k m at, length_push nodes n, get-append-high nodes (n ∷ []) 0)
 
-pub push-grows : (e : Evaluator) (n : Node) (nodes : Vec Node) → IsSound e → IsNodeAt (length e.nodes.items) n → nodes.items ≡ e.nodes.items ++ n ∷ []
+pub push-grows : (e : Evaluator) (n : Node) (nodes : Vec Node) → EvaluatorIsSound e → IsNodeAt (length e.nodes.items) n → nodes.items ≡ e.nodes.items ++ n ∷ []
     → Grows e (record { alloc = e.alloc; translation = e.translation; types = e.types; globals = e.globals; nodes = nodes })
 push-grows e n nodes sound at is =
     let extends : Extends e.nodes.items nodes.items = record { more = n ∷ []; is = is } in

@@ -17,18 +17,18 @@ abbrev pub fields_of : Evaluator → ℕ → ℕ
 fields_of e = field_count_in e.translation.now e.types.now
 
 -- the position that an offset names
-abbrev pub place_of : Evaluator → Expression → ℕ
-place_of e = offset_over (globals_of e) (fields_of e)
+abbrev pub offset_position : Evaluator → Expression → ℕ
+offset_position e = offset_over (globals_of e) (fields_of e)
 
 -- each node names only nodes before it, and each global only a node that there is
-pub record IsSound (e : Evaluator) : Type 0 where
+pub record EvaluatorIsSound (e : Evaluator) : Type 0 where
   pub ordered : AreOrdered e.nodes.items
   pub globals : All (NamesBelow (length e.nodes.items)) e.globals.items
 
 -- nodes are appended, and nothing else is changed: the globals represent what they represented
 pub record Grows (old new : Evaluator) : Type 0 where
   pub extends : Extends old.nodes.items new.nodes.items
-  pub sound : IsSound new
+  pub sound : EvaluatorIsSound new
   pub globals : new.globals ≡ old.globals
   pub values : globals_of new ≡ globals_of old
   pub translation : new.translation ≡ old.translation

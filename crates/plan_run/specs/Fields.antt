@@ -9,13 +9,13 @@ use Rattle.module_types.specs.TypeList.{TypeList}
 use Rattle.init_plan.specs.declared.translation.ModuleTranslation.{ModuleTranslation}
 
 -- the index of a type among the interned ones
-abbrev pub place_of : EngineOrModuleTypeIndex → Option ℕ
-place_of (name.Module index) = Some (number_of index)
-place_of _ = None
+abbrev pub module_type_number : EngineOrModuleTypeIndex → Option ℕ
+module_type_number (name.Module index) = Some (number_of index)
+module_type_number _ = None
 
 -- the type of an index of the module
 abbrev pub type_at : ModuleTranslation → TypeList → ℕ → Option WasmSubType
-type_at t types index = option_and_then (slice_get types.types) (option_and_then place_of (slice_get t.module.types index))
+type_at t types index = option_and_then (slice_get types.types) (option_and_then module_type_number (slice_get t.module.types index))
 
 abbrev pub length_or_zero : {A : Type 0} → Option (List A) → ℕ
 length_or_zero None = 0

@@ -8,7 +8,7 @@ ghost use Rattle.replay_spec.specs.Phases.{Phase};
 ghost use Rattle.replay_spec.specs.Values as plain;
 ghost use Rattle.replay_spec.specs.Values.{Term};
 ghost use Rattle.table_images.specs.Views.{items_of as the_items, active_elements_of};
-ghost use Rattle.plan_run.specs.Evaluation.{globals_of, fields_of, IsSound, Grows};
+ghost use Rattle.plan_run.specs.Evaluation.{globals_of, fields_of, EvaluatorIsSound, Grows};
 ghost use Rattle.plan_run.specs.Lays.{Lays, Hold};
 ghost use Rattle.plan_run.specs.Nodes.{AllMean};
 ghost use Rattle.plan_run.specs.Segments.{WritesPiece};
@@ -48,7 +48,7 @@ fn references(alloc: Global, functions: &[FuncIndex]) -> Result<Vec<Value>, OutO
 impl Evaluator<'_, '_, '_> {
     /// The values of expressions.
     fn evaluate_all(&mut self, expressions: &[ConstExpr]) -> Result<Vec<Value>, OutOfMemory>
-        requires sound { IsSound self.old }
+        requires sound { EvaluatorIsSound self.old }
         ensures grows { OnOk result (Grows self.old self.new) }
         ensures means { IfOk result (λ items. AllMean self.new.nodes.items items.items
             (map (cell_of (globals_of self.old) (fields_of self.old)) (map expression_of expressions.now))) }
@@ -63,7 +63,7 @@ impl Evaluator<'_, '_, '_> {
 
     /// The values of a segment's items.
     fn items_of(&mut self, elements: &TableSegmentElements) -> Result<Vec<Value>, OutOfMemory>
-        requires sound { IsSound self.old }
+        requires sound { EvaluatorIsSound self.old }
         ensures grows { OnOk result (Grows self.old self.new) }
         ensures means { IfOk result (λ items. AllMean self.new.nodes.items items.items
             (item_cells (globals_of self.old) (fields_of self.old) (the_items elements.now))) }
@@ -82,7 +82,7 @@ impl Evaluator<'_, '_, '_> {
 
     /// What is to be written of the element segments that are kept, in order.
     pub(crate) fn pieces_kept(&mut self) -> Result<Vec<ElementPiece>, OutOfMemory>
-        requires sound { IsSound self.old }
+        requires sound { EvaluatorIsSound self.old }
         ensures grows { OnOk result (Grows self.old self.new) }
         ensures means { IfOk result (λ pieces. PiecesMean self.new.nodes.items pieces.items (map (elements_piece (globals_of self.old) (fields_of self.old))
             (map active_elements_of self.old.translation.now.table_initialization.segments.items))) }

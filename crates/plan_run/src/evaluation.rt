@@ -5,7 +5,7 @@ ghost use Rattle.wasm_convert.specs.Constants.{expression_of};
 ghost use Rattle.wasm_convert.specs.Operators.{operator_of};
 ghost use Rattle.replay_spec.specs.Elements.{cell_of, value_or_null};
 ghost use Rattle.replay_spec.specs.Values.{Term, action, number_of, only_value};
-ghost use Rattle.plan_run.specs.Evaluation.{globals_of, fields_of, place_of as the_place, IsSound, Grows};
+ghost use Rattle.plan_run.specs.Evaluation.{globals_of, fields_of, offset_position, EvaluatorIsSound, Grows};
 ghost use Rattle.plan_run.specs.Nodes.{Acts, Means, MeansOption};
 ghost use Rattle.plan_run.specs.Values.{value_in, values_in, terms_of, NamesBelow};
 
@@ -41,7 +41,7 @@ fn only(values: &[Value]) -> Value
 }
 
 /// The position that a value names, and 0 where it is no integer.
-fn place_of(value: Value) -> u64
+fn position_in(value: Value) -> u64
     ensures { (terms : List Term) → result ≡ number_of (value_in terms value) }
 {
     match value {
@@ -54,7 +54,7 @@ fn place_of(value: Value) -> u64
 impl Evaluator<'_, '_, '_> {
     /// What an operator makes of the values that it takes; none where they are not what it needs.
     fn make(&mut self, op: ConstOp, args: &[Value]) -> Result<Option<Value>, OutOfMemory>
-        requires sound { IsSound self.old }
+        requires sound { EvaluatorIsSound self.old }
         requires args { All (NamesBelow (length self.old.nodes.items)) args.now }
         ensures grows { OnOk result (Grows self.old self.new) }
         ensures means { IfOk result (λ o. (fields : ℕ → ℕ) → MeansOption self.new.nodes.items o
@@ -70,7 +70,7 @@ impl Evaluator<'_, '_, '_> {
     /// Runs one operator: replaces the values that it takes by what it makes. Returns whether it
     /// finds the values that it needs.
     fn step(&mut self, stack: &mut Vec<Value>, op: ConstOp) -> Result<bool, OutOfMemory>
-        requires sound { IsSound self.old }
+        requires sound { EvaluatorIsSound self.old }
         requires stack { All (NamesBelow (length self.old.nodes.items)) stack.old.items }
         ensures grows { OnOk result (Grows self.old self.new) }
         ensures acts { IfOk result (Acts (action (globals_of self.old) (fields_of self.old) (operator_of op))
@@ -97,7 +97,7 @@ impl Evaluator<'_, '_, '_> {
 
     /// The value of an expression, and null where it has none.
     pub(crate) fn evaluate(&mut self, expression: &ConstExpr) -> Result<Value, OutOfMemory>
-        requires sound { IsSound self.old }
+        requires sound { EvaluatorIsSound self.old }
         ensures grows { OnOk result (Grows self.old self.new) }
         ensures means { IfOk result (λ v. Means self.new.nodes.items v (cell_of (globals_of self.old) (fields_of self.old) (expression_of expression.now))) }
     {
@@ -112,11 +112,11 @@ impl Evaluator<'_, '_, '_> {
 
     /// The position that an offset names.
     pub(crate) fn offset_of(&mut self, offset: &ConstExpr) -> Result<u64, OutOfMemory>
-        requires sound { IsSound self.old }
+        requires sound { EvaluatorIsSound self.old }
         ensures grows { OnOk result (Grows self.old self.new) }
-        ensures place { IfOk result (λ place. place ≡ the_place self.old (expression_of offset.now)) }
+        ensures place { IfOk result (λ place. place ≡ offset_position self.old (expression_of offset.now)) }
     {
         let value = self.evaluate(offset)?;
-        Ok(place_of(value))
+        Ok(position_in(value))
     }
 }

@@ -5,7 +5,7 @@ ghost use Rattle.wasm_index.specs.Index.{number_of};
 ghost use Rattle.replay_spec.specs.Globals.{simple_written, kept_written, planned_globals};
 ghost use Rattle.replay_spec.specs.Values.{Term};
 ghost use Rattle.init_plan.specs.Held.{simple_global_of, kept_global_of, plan_of_globals};
-ghost use Rattle.plan_run.specs.Evaluation.{globals_of, fields_of, IsSound};
+ghost use Rattle.plan_run.specs.Evaluation.{globals_of, fields_of, EvaluatorIsSound};
 ghost use Rattle.plan_run.specs.Fields.{field_count_in};
 ghost use Rattle.plan_run.specs.Finished.{GlobalsAreFinished};
 ghost use Rattle.plan_run.specs.Values.{values_in, imported_value, IsPlain, NamesBelow};
@@ -40,9 +40,9 @@ fn write_simple(
 impl<'t, 'd, 'a> Evaluator<'t, 'd, 'a> {
     /// Writes the values of the initialisers that are kept, in order, each over the globals so far.
     fn write_kept(&mut self, imports: usize) -> Result<(), OutOfMemory>
-        requires sound { IsSound self.old }
+        requires sound { EvaluatorIsSound self.old }
         requires within { All (λ g. imports + number_of g.0 < length self.old.globals.items) self.old.translation.now.global_initializers.items }
-        ensures sound { OnOk result (IsSound self.new) }
+        ensures sound { OnOk result (EvaluatorIsSound self.new) }
         ensures translation { OnOk result (self.new.translation ≡ self.old.translation) }
         ensures types { OnOk result (self.new.types ≡ self.old.types) }
         ensures written { OnOk result (globals_of self.new ≡ kept_written (fields_of self.old) imports (globals_of self.old)
@@ -66,7 +66,7 @@ impl<'t, 'd, 'a> Evaluator<'t, 'd, 'a> {
         requires plain { All IsPlain imported.items }
         requires imports { length imported.items ≡ translation.now.module.num_imported_globals }
         requires finished { GlobalsAreFinished translation.now }
-        ensures sound { IfOk result IsSound }
+        ensures sound { IfOk result EvaluatorIsSound }
         ensures translation { IfOk result (λ e. e.translation ≡ translation.entry) }
         ensures types { IfOk result (λ e. e.types ≡ types.entry) }
         ensures laid { IfOk result (λ e. globals_of e

@@ -6,7 +6,7 @@ ghost use Rattle.replay_spec.specs.Values as plain;
 ghost use Rattle.replay_spec.specs.Values.{converted};
 ghost use Rattle.plan_run.specs.declared.kinds.Kind.TheVariants.{Conversion};
 ghost use Rattle.plan_run.specs.declared.value.Value.TheVariants.{Term};
-ghost use Rattle.plan_run.specs.Evaluation.{IsSound, Grows};
+ghost use Rattle.plan_run.specs.Evaluation.{EvaluatorIsSound, Grows};
 ghost use Rattle.plan_run.specs.Kinds.{kind_of, conversion};
 ghost use Rattle.plan_run.specs.Nodes.{Means, MeansOption};
 ghost use Rattle.plan_run.specs.Values.{value_in, values_in, terms_of, kept_term, NamesBelow, IsReference, HasReference, AreOrdered};
@@ -70,7 +70,7 @@ fn is_reference(value: Value) -> bool
 impl Evaluator<'_, '_, '_> {
     /// A node of an operator and its arguments, as a value.
     pub(crate) fn push_node(&mut self, op: ConstOp, args: &[Value]) -> Result<Value, OutOfMemory>
-        requires sound { IsSound self.old }
+        requires sound { EvaluatorIsSound self.old }
         requires below { All (NamesBelow (length self.old.nodes.items)) args.now }
         requires converts { HasReference (operator_of op) args.now }
         ensures grows { OnOk result (Grows self.old self.new) }
@@ -88,7 +88,7 @@ impl Evaluator<'_, '_, '_> {
     /// A reference, converted. One that the other conversion made gives back what that was made
     /// from; what is no reference is not converted.
     fn convert_one(&mut self, op: ConstOp, value: Value) -> Result<Option<Value>, OutOfMemory>
-        requires sound { IsSound self.old }
+        requires sound { EvaluatorIsSound self.old }
         requires conversion { kind_of (operator_of op) ≡ Conversion }
         requires below { NamesBelow (length self.old.nodes.items) value }
         ensures grows { OnOk result (Grows self.old self.new) }
@@ -110,7 +110,7 @@ impl Evaluator<'_, '_, '_> {
         op: ConstOp,
         args: &[Value],
     ) -> Result<Option<Value>, OutOfMemory>
-        requires sound { IsSound self.old }
+        requires sound { EvaluatorIsSound self.old }
         requires conversion { kind_of (operator_of op) ≡ Conversion }
         requires below { All (NamesBelow (length self.old.nodes.items)) args.now }
         ensures grows { OnOk result (Grows self.old self.new) }

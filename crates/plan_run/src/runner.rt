@@ -3,7 +3,7 @@
 ghost use Rattle.std.specs.Prelude.{◌≡◌, ◌↔◌, ◌⊎◌, ◌++◌, ◌≤◌, ◌<◌, ◌^◌, length, map, All, IfOk, OnOk};
 ghost use Rattle.std.specs.declared.result.Result.TheVariants.{Err};
 ghost use Rattle.plan_run.specs.Finished.{Finished, TablesAreFinished};
-ghost use Rattle.plan_run.specs.Evaluation.{globals_of, fields_of, place_of, IsSound, Grows};
+ghost use Rattle.plan_run.specs.Evaluation.{globals_of, fields_of, offset_position, EvaluatorIsSound, Grows};
 ghost use Rattle.plan_run.specs.Laid.{data_phase, GlobalsAreLaid, MemoriesAreLaid, TablesAreLaid, NamesNodes, PagesAreLent, LendImages};
 ghost use Rattle.plan_run.specs.Limits.{IsTooLarge};
 ghost use Rattle.plan_run.specs.Lays.{Lays};
@@ -34,15 +34,15 @@ impl<'t> Evaluator<'t, '_, '_> {
         way: Way,
         imported: Vec<PagedMemory<'t>>,
     ) -> Result<(Vec<PagedMemory<'t>>, Option<u64>), OutOfMemory>
-        requires sound { IsSound self.old }
+        requires sound { EvaluatorIsSound self.old }
         requires finished { Finished self.old.translation.now }
         requires small { IsTooLarge self.old.translation.now → ⊥ }
         requires imports { length imported.items ≡ self.old.translation.now.module.num_imported_memories }
         ensures grows { OnOk result (Grows self.old self.new) }
-        ensures laid { IfOk result (λ laid. Lays (plan_phase way (place_of self.old) (bytes_in imported.entry.items) (memory_plan_of self.old.translation.now))
+        ensures laid { IfOk result (λ laid. Lays (plan_phase way (offset_position self.old) (bytes_in imported.entry.items) (memory_plan_of self.old.translation.now))
             (length self.old.translation.now.module.memories) (bytes_in laid.0.items) laid.1) }
         ensures lent { IfOk result (λ laid. PagesAreLent self.old.translation.now way
-            (plan_phase way (place_of self.old) (bytes_in imported.entry.items) (memory_plan_of self.old.translation.now)) imported.entry.items laid.0.items) }
+            (plan_phase way (offset_position self.old) (bytes_in imported.entry.items) (memory_plan_of self.old.translation.now)) imported.entry.items laid.0.items) }
         ensures shared { IfOk result (λ laid. LendImages self.old.translation.now way laid.0.items) }
     {
         let mut memories = first_memories(self.alloc, self.translation, way, imported)?;
@@ -56,7 +56,7 @@ impl<'t> Evaluator<'t, '_, '_> {
         &mut self,
         imported: Vec<Vec<Value>>,
     ) -> Result<(Vec<Vec<Value>>, Option<u64>), OutOfMemory>
-        requires sound { IsSound self.old }
+        requires sound { EvaluatorIsSound self.old }
         requires finished { TablesAreFinished self.old.translation.now }
         requires imports { length imported.items ≡ self.old.translation.now.module.num_imported_tables }
         requires plain { All (λ table. All IsPlain table.items) imported.items }

@@ -8,7 +8,7 @@ ghost use Rattle.wasm_convert.specs.Constants.{expression_of};
 ghost use Rattle.replay_spec.specs.Phases.{Phase};
 ghost use Rattle.replay_spec.specs.Plan.{planned_piece};
 ghost use Rattle.init_plan.specs.Views.{memory_plan_of, planned_offset_of, processed_of, IsProcessed};
-ghost use Rattle.plan_run.specs.Evaluation.{place_of, IsSound, Grows};
+ghost use Rattle.plan_run.specs.Evaluation.{offset_position, EvaluatorIsSound, Grows};
 ghost use Rattle.plan_run.specs.Lays.{Lays, Hold};
 ghost use Rattle.plan_run.specs.Memories.{bytes_in, plan_phase, left_place, data_piece};
 ghost use Rattle.plan_run.specs.Segments.{left_piece, left_pieces, WritesPiece, LendAfter, LendOn};
@@ -55,9 +55,9 @@ impl<'t> Evaluator<'t, '_, '_> {
         way: Way,
         offset: &MemorySegmentOffset,
     ) -> Result<Option<u64>, OutOfMemory>
-        requires sound { IsSound self.old }
+        requires sound { EvaluatorIsSound self.old }
         ensures grows { OnOk result (Grows self.old self.new) }
-        ensures place { IfOk result (λ place. place ≡ left_place way (place_of self.old) (planned_offset_of offset.now)) }
+        ensures place { IfOk result (λ place. place ≡ left_place way (offset_position self.old) (planned_offset_of offset.now)) }
     {
         match offset {
             MemorySegmentOffset::Expr(e) => {
@@ -73,11 +73,11 @@ impl<'t> Evaluator<'t, '_, '_> {
 
     /// What remains to be written of the data segments, in order.
     pub(crate) fn pieces_left(&mut self, way: Way) -> Result<Vec<DataPiece<'t>>, OutOfMemory>
-        requires sound { IsSound self.old }
+        requires sound { EvaluatorIsSound self.old }
         requires processed { IsProcessed self.old.translation.now.memory_init }
         ensures grows { OnOk result (Grows self.old self.new) }
         ensures pieces { IfOk result (λ pieces. map data_piece pieces.items
-            ≡ left_pieces way (place_of self.old) (memory_plan_of self.old.translation.now) (processed_of self.old.translation.now.memory_init)) }
+            ≡ left_pieces way (offset_position self.old) (memory_plan_of self.old.translation.now) (processed_of self.old.translation.now.memory_init)) }
     {
         let translation = self.translation;
         let mut pieces = Vec::new(self.alloc);

@@ -6,7 +6,7 @@ ghost use Rattle.replay_spec.specs.Tables.{PlannedTable, reference_of};
 ghost use Rattle.replay_spec.specs.Values.{Term};
 ghost use Rattle.table_images.specs.Views.{cell_of as image_cell, image_of};
 ghost use Rattle.init_plan.specs.Tables.{plan_of_tables, AreCounted};
-ghost use Rattle.plan_run.specs.Evaluation.{globals_of, fields_of, IsSound, Grows};
+ghost use Rattle.plan_run.specs.Evaluation.{globals_of, fields_of, EvaluatorIsSound, Grows};
 ghost use Rattle.plan_run.specs.Nodes.{AllMean};
 ghost use Rattle.plan_run.specs.Tables.{first_cells, image_cells as the_cells, TablesMean};
 ghost use Rattle.plan_run.specs.Values.{value_in, values_in, imported_value, IsPlain};
@@ -68,7 +68,7 @@ pub(crate) fn minimum_of(tables: &[Table], at: usize) -> u64
 impl Evaluator<'_, '_, '_> {
     /// A defined table as it begins, by its number among those.
     fn first_table(&mut self, number: usize) -> Result<Vec<Value>, OutOfMemory>
-        requires sound { IsSound self.old }
+        requires sound { EvaluatorIsSound self.old }
         requires imports { self.old.translation.now.module.num_imported_tables ≤ length self.old.translation.now.module.tables }
         requires counted { AreCounted self.old.translation.now }
         requires images { All (λ table. length table.image ≤ table.minimum) (plan_of_tables self.old.translation.now).tables }
@@ -100,7 +100,7 @@ impl Evaluator<'_, '_, '_> {
         &mut self,
         imported: Vec<Vec<Value>>,
     ) -> Result<Vec<Vec<Value>>, OutOfMemory>
-        requires sound { IsSound self.old }
+        requires sound { EvaluatorIsSound self.old }
         requires plain { All (λ table. All IsPlain table.items) imported.items }
         requires imports { self.old.translation.now.module.num_imported_tables ≤ length self.old.translation.now.module.tables }
         requires counted { AreCounted self.old.translation.now }

@@ -4,7 +4,7 @@ ghost use Rattle.std.specs.Prelude.{◌≡◌, ◌↔◌, length, All, IsTrue};
 ghost use Rattle.plan_run.specs.Finished.{Finished};
 ghost use Rattle.plan_run.specs.Values.{IsPlain};
 
-use crate::row::{Picture, Row};
+use crate::row::{ModuleRow, Picture};
 use command_words::Command;
 use entity_map::OutOfMemory;
 use init_plan::{ModuleTranslation, RuntimeBytes};
@@ -23,7 +23,7 @@ const HEADER: [u8; 8] = [0x00, 0x61, 0x73, 0x6D, 0x01, 0x00, 0x00, 0x00];
 static LENT: [u8; 16] = [7, 7, 7, 7, 7, 7, 7, 7, 7, 7, 7, 7, 7, 7, 7, 7];
 
 /// What is imported of a row.
-fn given(alloc: Global, row: &Row) -> Result<Imports<'static>, OutOfMemory> {
+fn given(alloc: Global, row: &ModuleRow) -> Result<Imports<'static>, OutOfMemory> {
     let mut globals = Vec::new(alloc);
     for number in row.globals {
         globals.push(Value::I32(*number))?;
@@ -126,7 +126,7 @@ fn planned_byte(translation: &ModuleTranslation<'_>, place: u64) -> Option<u8> {
 }
 
 /// What is seen at the positions of a row.
-fn picture_of(row: &Row, translation: &ModuleTranslation<'_>, laid: &Laid<'_>) -> Picture {
+fn picture_of(row: &ModuleRow, translation: &ModuleTranslation<'_>, laid: &Laid<'_>) -> Picture {
     let globals = laid.globals.as_slice();
     let memories = laid.memories.as_slice();
     let tables = laid.tables.as_slice();
@@ -168,7 +168,7 @@ fn write_last(
 
 /// What is seen of the outcome of a run, which is dropped here.
 fn looked(
-    row: &Row,
+    row: &ModuleRow,
     translation: &ModuleTranslation<'_>,
     mut laid: Laid<'_>,
 ) -> Result<Picture, OutOfMemory> {
@@ -182,7 +182,7 @@ fn looked(
 /// What is seen of a plan that is run; none where it is too large.
 fn laid_of(
     alloc: Global,
-    row: &Row,
+    row: &ModuleRow,
     plan: &Plan<'_>,
     imports: Imports<'_>,
 ) -> Result<Option<Picture>, Fail>
@@ -201,7 +201,7 @@ fn laid_of(
 }
 
 /// What is seen of a row.
-pub(crate) fn picture(alloc: Global, row: &Row) -> Result<Option<Picture>, Fail> {
+pub(crate) fn picture(alloc: Global, row: &ModuleRow) -> Result<Option<Picture>, Fail> {
     // Each plan can be run; this does nothing when it is run.
     translated_is_finished();
     let imports = given(alloc, row)?;

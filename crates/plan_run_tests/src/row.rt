@@ -4,7 +4,7 @@ use plan_run::{Value, Way};
 
 /// A module, and how it is run.
 #[derive(Clone, Copy)]
-pub(crate) struct Row {
+pub(crate) struct ModuleRow {
     /// The bytes after the header.
     pub(crate) sections: &'static [u8],
     /// Whether memories begin as images.
@@ -46,7 +46,7 @@ pub(crate) struct Picture {
 }
 
 /// No switch is on, and nothing is imported.
-pub(crate) const ROW: Row = Row {
+pub(crate) const ROW: ModuleRow = ModuleRow {
     sections: &[],
     images: false,
     lazy: false,

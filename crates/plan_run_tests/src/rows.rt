@@ -3,7 +3,7 @@
 ghost use Rattle.std.specs.Prelude.{◌<◌};
 
 use crate::laying::picture;
-use crate::row::{NOTHING, Picture, ROW, Row};
+use crate::row::{ModuleRow, NOTHING, Picture, ROW};
 use entity_map::EntityRef;
 use plan_run::{Value, Way};
 use std::alloc::Global;
@@ -12,14 +12,14 @@ use std::test::Fail;
 use wasm_index::FuncIndex;
 
 /// Runs a row, and expects what is seen of it.
-fn expect(rt: &impl Abort, alloc: Global, row: Row, want: Picture) -> Result<(), Fail> {
+fn expect(rt: &impl Abort, alloc: Global, row: ModuleRow, want: Picture) -> Result<(), Fail> {
     let seen = picture(alloc, &row)?;
     assert_eq!(rt; seen, Some(want));
     Ok(())
 }
 
 /// One memory of one page, with the bytes 1, 2, 3 at 16 and then 9 at 17.
-const OVERLAP: Row = Row {
+const OVERLAP: ModuleRow = ModuleRow {
     sections: &[
         0x05, 0x03, 0x01, 0x00, 0x01, 0x0B, 0x0F, 0x02, 0x00, 0x41, 0x10, 0x0B, 0x03, 0x01, 0x02,
         0x03, 0x00, 0x41, 0x11, 0x0B, 0x01, 0x09,
@@ -40,7 +40,7 @@ const OVERLAID: Picture = Picture {
 fn an_image_is_lent_or_copied(rt: HostRuntime) -> Result<(), Fail> {
     let alloc = rt.alloc();
     expect(&rt, alloc, OVERLAP, OVERLAID)?;
-    let row = Row {
+    let row = ModuleRow {
         written: Some((17, 4)),
         ..OVERLAP
     };
@@ -50,7 +50,7 @@ fn an_image_is_lent_or_copied(rt: HostRuntime) -> Result<(), Fail> {
         ..OVERLAID
     };
     expect(&rt, alloc, row, want)?;
-    let row = Row {
+    let row = ModuleRow {
         way: Way::Copy,
         ..OVERLAP
     };
@@ -64,7 +64,7 @@ fn an_image_is_lent_or_copied(rt: HostRuntime) -> Result<(), Fail> {
 /// Two memories, of which the first is imported: 10, 11, 12, 13 are written to it from 14 on,
 /// across the second of its borrowed pages and one that is zero. 5, 6 are written to the other from
 /// 16 on.
-const TWO_MEMORIES: Row = Row {
+const TWO_MEMORIES: ModuleRow = ModuleRow {
     sections: &[
         0x02, 0x08, 0x01, 0x01, 0x6D, 0x01, 0x61, 0x02, 0x00, 0x00, 0x05, 0x03, 0x01, 0x00, 0x01,
         0x0B, 0x12, 0x02, 0x00, 0x41, 0x0E, 0x0B, 0x04, 0x0A, 0x0B, 0x0C, 0x0D, 0x02, 0x01, 0x41,
@@ -78,7 +78,7 @@ const TWO_MEMORIES: Row = Row {
 
 /// One memory, and three segments that are kept: 1, 2, 3 at 16; 9, 9 at 65535, which does not fit;
 /// 4 at 20.
-const TRAP: Row = Row {
+const TRAP: ModuleRow = ModuleRow {
     sections: &[
         0x05, 0x03, 0x01, 0x00, 0x01, 0x0B, 0x18, 0x03, 0x00, 0x41, 0x10, 0x0B, 0x03, 0x01, 0x02,
         0x03, 0x00, 0x41, 0xFF, 0xFF, 0x03, 0x0B, 0x02, 0x09, 0x09, 0x00, 0x41, 0x14, 0x0B, 0x01,
@@ -90,7 +90,7 @@ const TRAP: Row = Row {
 
 /// The segments of `OVERLAP`, and an empty one at an offset of -1, which is 4294967295 and does not
 /// fit.
-const LAST_TRAP: Row = Row {
+const LAST_TRAP: ModuleRow = ModuleRow {
     sections: &[
         0x05, 0x03, 0x01, 0x00, 0x01, 0x0B, 0x14, 0x03, 0x00, 0x41, 0x10, 0x0B, 0x03, 0x01, 0x02,
         0x03, 0x00, 0x41, 0x11, 0x0B, 0x01, 0x09, 0x00, 0x41, 0x7F, 0x0B, 0x00,
@@ -114,7 +114,7 @@ fn segments_are_written_up_to_the_trap(rt: HostRuntime) -> Result<(), Fail> {
         ..NOTHING
     };
     expect(&rt, alloc, TRAP, want)?;
-    let row = Row {
+    let row = ModuleRow {
         way: Way::Copy,
         ..LAST_TRAP
     };
@@ -143,7 +143,7 @@ fn number(number: u32) -> Option<Value> {
 
 /// A table of four cells, and three segments: functions 5, 6 at 1; 7, 8 at 3, which do not fit; 4
 /// at 0.
-const TABLE: Row = Row {
+const TABLE: ModuleRow = ModuleRow {
     sections: &[
         0x01, 0x04, 0x01, 0x60, 0x00, 0x00, 0x03, 0x0A, 0x09, 0x00, 0x00, 0x00, 0x00, 0x00, 0x00,
         0x00, 0x00, 0x00, 0x04, 0x04, 0x01, 0x70, 0x00, 0x04, 0x09, 0x15, 0x03, 0x00, 0x41, 0x01,
@@ -160,7 +160,7 @@ const TABLE: Row = Row {
 /// A table of two cells with an initialiser, which is null, and one of four cells, whose image is
 /// null and the functions 0, 1. Function 1 is written to the first; what is to be written to the
 /// other does not fit.
-const TWO_TABLES: Row = Row {
+const TWO_TABLES: ModuleRow = ModuleRow {
     sections: &[
         0x01, 0x04, 0x01, 0x60, 0x00, 0x00, 0x03, 0x03, 0x02, 0x00, 0x00, 0x04, 0x0C, 0x02, 0x40,
         0x00, 0x70, 0x00, 0x02, 0xD0, 0x70, 0x0B, 0x70, 0x00, 0x04, 0x09, 0x19, 0x03, 0x02, 0x01,
@@ -174,7 +174,7 @@ const TWO_TABLES: Row = Row {
 };
 
 /// An imported table of three cells, to which function 0 is written at 1.
-const IMPORTED_TABLE: Row = Row {
+const IMPORTED_TABLE: ModuleRow = ModuleRow {
     sections: &[
         0x01, 0x04, 0x01, 0x60, 0x00, 0x00, 0x02, 0x09, 0x01, 0x01, 0x6D, 0x01, 0x74, 0x01, 0x70,
         0x00, 0x03, 0x03, 0x02, 0x01, 0x00, 0x09, 0x07, 0x01, 0x00, 0x41, 0x01, 0x0B, 0x01, 0x00,
@@ -217,7 +217,7 @@ fn tables_hold_images_and_what_is_written(rt: HostRuntime) -> Result<(), Fail> {
 }
 
 /// An imported global, and one that is one more.
-const NEXT_GLOBAL: Row = Row {
+const NEXT_GLOBAL: ModuleRow = ModuleRow {
     sections: &[
         0x02, 0x08, 0x01, 0x01, 0x6D, 0x01, 0x67, 0x03, 0x7F, 0x00, 0x06, 0x09, 0x01, 0x7F, 0x00,
         0x23, 0x00, 0x41, 0x01, 0x6A, 0x0B,
@@ -228,7 +228,7 @@ const NEXT_GLOBAL: Row = Row {
 
 /// The same two globals, an object of the first and null, an object of the second and the first
 /// object, and that object as a host sees it.
-const OBJECTS: Row = Row {
+const OBJECTS: ModuleRow = ModuleRow {
     sections: &[
         0x01, 0x07, 0x01, 0x5F, 0x02, 0x7F, 0x00, 0x6E, 0x00, 0x02, 0x08, 0x01, 0x01, 0x6D, 0x01,
         0x67, 0x03, 0x7F, 0x00, 0x06, 0x26, 0x04, 0x7F, 0x00, 0x23, 0x00, 0x41, 0x01, 0x6A, 0x0B,
@@ -258,7 +258,7 @@ fn globals_have_numbers_and_objects(rt: HostRuntime) -> Result<(), Fail> {
 }
 
 /// A memory of 65537 pages, which are 4295032832 bytes.
-const LARGE: Row = Row {
+const LARGE: ModuleRow = ModuleRow {
     sections: &[
         0x05, 0x05, 0x01, 0x04, 0x81, 0x80, 0x04, 0x0B, 0x11, 0x02, 0x00, 0x42, 0x00, 0x0B, 0x01,
         0x01, 0x00, 0x42, 0x80, 0x80, 0x80, 0x80, 0x10, 0x0B, 0x01, 0x01,

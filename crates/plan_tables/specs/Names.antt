@@ -73,7 +73,7 @@ module _ (pool : List (List ℕ)) where
   own_name None = []
   own_name (Some name) = name_of name
 
-pub record TellsNames (m : Module) (r : NamesRecord) : Type 0 where
+pub record TellsModuleNames (m : Module) (r : NamesRecord) : Type 0 where
   pub imports : TellsImports m.strings m.initializers.items r.imports
   pub exports : TellsExports m.strings m.exports.entries r.exports
   pub own : r.own.now ≡ own_parts m.strings m.name

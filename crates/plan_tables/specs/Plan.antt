@@ -16,7 +16,7 @@ use Rattle.plan_tables.specs.Items.{TellsItems}
 use Rattle.plan_tables.specs.Kinds.{TellsKinds}
 use Rattle.plan_tables.specs.Layouts.{TellsLayouts}
 use Rattle.plan_tables.specs.Memories.{TellsMemories}
-use Rattle.plan_tables.specs.Names.{TellsNames, own_name}
+use Rattle.plan_tables.specs.Names.{TellsModuleNames, own_name}
 use Rattle.plan_tables.specs.Structs.{TellsStructs}
 use Rattle.plan_tables.specs.Tables.{TellsTables}
 use Rattle.plan_tables.specs.Types.{TellsTypes}
@@ -37,7 +37,7 @@ pub record Tells (plan : Plan) (r : PlanRecord) : Type 0 where
   pub globals : TellsGlobals plan.translation r.globals
   -- the operators of each constant expression
   pub places : TellsPlaces plan.translation r.places
-  pub names : TellsNames plan.translation.module r.names
+  pub names : TellsModuleNames plan.translation.module r.names
   pub module_text : r.module_text.now ≡ own_name plan.translation.module.strings plan.translation.module.name
   pub layouts : TellsLayouts plan.layouts r.layouts
   pub interned : TellsInterned plan.types r.interned

@@ -1,7 +1,7 @@
 -- What a record gives of the structs that compiled code reads.
 use Rattle.std.specs.Prelude.{◌≡◌, ℕ, List, [], ◌∷◌, Option, Some, None, codes, if◌then◌else◌}
 use Rattle.std.specs.Str.{bytes_eq}
-use Rattle.vm_structs.specs.Fields.{Field, offset_of, size_of, end_of}
+use Rattle.vm_structs.specs.Fields.{StructField, offset_of, size_of, end_of}
 use Rattle.vm_structs.specs.Structs.{function_import, table_import, memory_import, tag_import, global_import, memory_definition, table_definition, global_definition, tag_definition, func_ref, store_context, static_context}
 use Rattle.plan_tables.specs.declared.struct_rows.FunctionImportLayout.{FunctionImportLayout}
 use Rattle.plan_tables.specs.declared.struct_rows.TableImportLayout.{TableImportLayout}
@@ -18,12 +18,12 @@ use Rattle.plan_tables.specs.declared.struct_rows.StaticContextLayout.{StaticCon
 use Rattle.plan_tables.specs.declared.struct_rows.Structs.{Structs}
 
 -- the size of the field with a name, if there is one
-abbrev pub width_in : List Field → List ℕ → Option ℕ
+abbrev pub width_in : List StructField → List ℕ → Option ℕ
 width_in [] name = None
 width_in (field ∷ fields) name = if bytes_eq field.name name then Some field.size else width_in fields name
 
 -- the same of a struct
-abbrev pub width_of : (ℕ → List Field) → List ℕ → ℕ → Option ℕ
+abbrev pub width_of : (ℕ → List StructField) → List ℕ → ℕ → Option ℕ
 width_of struct name pointer = width_in (struct pointer) name
 
 module _ (pointer : ℕ) where

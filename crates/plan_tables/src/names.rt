@@ -4,7 +4,7 @@ ghost use Rattle.std.specs.Prelude.{◌≡◌, ◌++◌, length, All, IfOk, OnOk
 ghost use Rattle.std.specs.List.{flat_map};
 ghost use Rattle.plan_lines.specs.ModuleLines.{HasNames};
 ghost use Rattle.plan_lines.specs.NameLines.{IsInPool, HasName, kind_number};
-ghost use Rattle.plan_tables.specs.Names.{entity_kind, name_of, name_part, import_row, import_names, own_parts, own_name, TellsImports, TellsExports, TellsNames};
+ghost use Rattle.plan_tables.specs.Names.{entity_kind, name_of, name_part, import_row, import_names, own_parts, own_name, TellsImports, TellsExports, TellsModuleNames};
 
 use crate::record::{ExportsRecord, ImportsRecord, NamesRecord};
 use crate::rows::{ExportRow, ImportRow, Span};
@@ -147,7 +147,7 @@ pub(crate) fn fill_names<'d>(
     requires imports { All (HasNames «module».now.strings) «module».now.initializers.items }
     requires exports { All (λ export. IsInPool «module».now.strings export.0) «module».now.exports.entries }
     requires name { HasName «module».now.strings «module».now.name }
-    ensures names { OnOk result (TellsNames «module».now out.new) }
+    ensures names { OnOk result (TellsModuleNames «module».now out.new) }
     ensures text { OnOk result (text_out.new.now ≡ own_name «module».now.strings «module».now.name) }
 {
     out.imports = imports_record(alloc, &module.strings, &module.initializers)?;

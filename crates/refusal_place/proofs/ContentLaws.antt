@@ -22,7 +22,7 @@ use Rattle.refusal_place.specs.declared.place.Fault.{Fault}
 use Rattle.refusal_place.specs.declared.place.Fault.TheVariants as fault
 use Rattle.refusal_place.specs.Found.{AreUnread, IsNoNumber, IsEntriesFault, IsFirstUnread, LeavesBytes, ReadsUpTo, Shortens}
 use Rattle.refusal_place.specs.Kinds.{OfEntries}
-use Rattle.refusal_place.specs.Places.{IsUnspelled, Lists, IsFirstUnspelled, IsFirstStopped, HasRemainder, IsInContents}
+use Rattle.refusal_place.specs.Places.{IsUnspelled, ListsEntries, IsFirstUnspelled, IsFirstStopped, HasRemainder, IsInContents}
 
 module _ {A : Type 0} (read : Reader A) (g : Part A) (a : Agrees read g) where
   pub shortens : Shortens read
@@ -37,7 +37,7 @@ module _ {A : Type 0} (read : Reader A) (g : Part A) (a : Agrees read g) where
       absurd cc
 
   pub lists : (contents : List ℕ) (entry offset count : ℕ) (rest : List ℕ) → ReadsUpTo read contents entry offset count rest
-      → Lists g contents entry offset count rest
+      → ListsEntries g contents entry offset count rest
   lists contents entry offset count rest u =
       let n = (unsigned_agrees 32).found contents count u.first u.counts in
       let b = (elements_agree a entry).found u.first u.entries rest u.before in record {

@@ -6,7 +6,7 @@ use Rattle.form_reader.specs.Reading.{Reader}
 use Rattle.form_reader.specs.Agrees.{Agrees}
 use Rattle.form_reader.specs.NumberLaws.{unsigned_agrees}
 use Rattle.refusal_place.specs.declared.kind.SectionKind.{SectionKind}
-use Rattle.refusal_place.specs.declared.seek.Contents.{Contents}
+use Rattle.refusal_place.specs.declared.seek.FoundContents.{FoundContents}
 use Rattle.refusal_place.specs.declared.place.Fault.{Fault}
 use Rattle.refusal_place.specs.Kinds.{OfEntries}
 use Rattle.refusal_place.specs.Found.{IsEntryRead, ReadsUpTo}
@@ -67,7 +67,7 @@ entry_within k contents entry offset is =
     (λ A part here. lists_within part contents entry offset here.count here.rest here.lists) is
 
 -- the entry is in the contents that were found
-pub entry_of : (k : SectionKind) (rest : List ℕ) (found : Contents) (entry offset : ℕ) → AreContentsIn k rest (Some found)
+pub entry_of : (k : SectionKind) (rest : List ℕ) (found : FoundContents) (entry offset : ℕ) → AreContentsIn k rest (Some found)
     → IsEntryIn k found.contents.now entry (Some offset) → IsEntryInSection k rest entry (Some (found.before + offset))
 entry_of k rest found entry offset a is = record {
   contents = found.contents.now;
@@ -79,7 +79,7 @@ entry_of k rest found entry offset a is = record {
   within = omega (arith, a.within, entry_within k found.contents.now entry offset is);
 }
 
-pub none_of : (k : SectionKind) (rest : List ℕ) (found : Contents) (entry : ℕ) → AreContentsIn k rest (Some found)
+pub none_of : (k : SectionKind) (rest : List ℕ) (found : FoundContents) (entry : ℕ) → AreContentsIn k rest (Some found)
     → IsEntryIn k found.contents.now entry None → IsEntryInSection k rest entry None
 none_of k rest found entry a none = inr (inr (found.contents.now, found.before, a.has, none))
 

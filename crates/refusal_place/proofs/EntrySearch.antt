@@ -17,7 +17,7 @@ use Rattle.refusal_place.specs.Places.{ComesTo, IsUnread}
 use Rattle.refusal_place.specs.Contents.{IsContentsPlace, SectionHasNoContents}
 use Rattle.refusal_place.specs.Entries.{IsEntryPlace, SectionHasNoEntry}
 use Rattle.refusal_place.specs.EntryFound.{IsEntryInSection}
-use Rattle.refusal_place.specs.declared.seek.Contents.{Contents}
+use Rattle.refusal_place.specs.declared.seek.FoundContents.{FoundContents}
 use Rattle.refusal_place.specs.Sought.{AreContentsIn, IsSectionAt, IsSectionFound}
 use Rattle.refusal_place.specs.Found.{IsPassed}
 use Rattle.refusal_place.proofs.IdLaws.{id_read}
@@ -214,7 +214,7 @@ module _ (k : SectionKind) (bytes : List ℕ) (start : ℕ) (a : IsSectionAt byt
     why = inr (inr is);
   }))
 
-  pub contents_at : (found : Contents) → AreContentsIn k taken (Some found) → IsContentsPlace bytes k (Some (start + found.before))
+  pub contents_at : (found : FoundContents) → AreContentsIn k taken (Some found) → IsContentsPlace bytes k (Some (start + found.before))
   contents_at found is = record {
     start = start;
     next = a.next;

@@ -22,7 +22,7 @@ use Rattle.refusal_place.specs.declared.kind.SectionKind.TheVariants as kind
 use Rattle.refusal_place.specs.declared.place.Fault.{Fault}
 use Rattle.refusal_place.specs.declared.place.Fault.TheVariants as fault
 use Rattle.refusal_place.specs.Kinds.{id_of, OfEntries}
-use Rattle.refusal_place.specs.Places.{IsUnspelled, IsUnread, Lists, IsFirstUnspelled, IsFirstStopped, IsInContents, HasContents, ComesTo}
+use Rattle.refusal_place.specs.Places.{IsUnspelled, IsUnread, ListsEntries, IsFirstUnspelled, IsFirstStopped, IsInContents, HasContents, ComesTo}
 use Rattle.refusal_place.specs.Entries.{ListsNothing, HasFewer, HasNoEntry, SectionHasNoEntry, IsEntryPlace}
 use Rattle.refusal_place.specs.Contents.{SectionHasNoContents, IsContentsPlace}
 use Rattle.refusal_place.specs.Listed.{listed_count, ListsAtMost, HasNoSection}
@@ -144,7 +144,7 @@ module _ {A : Type 0} (read : Reader A) (g : Part A) (a : Agrees read g) where
       let P : List ℕ → Type 0 = λ l. (part.elements g n).spells l j.value in subst P both j.is_first in
       next_spelled k n i.front rest i.value j.value (omega arith) i.is_first there
 
-  module _ (contents : List ℕ) (count entry offset number : ℕ) (rest : List ℕ) (c : Counts g contents count) (l : Lists g contents entry offset number rest) where
+  module _ (contents : List ℕ) (count entry offset number : ℕ) (rest : List ℕ) (c : Counts g contents count) (l : ListsEntries g contents entry offset number rest) where
     counted : (number ≡ c.spelled.value) × (l.front ++ rest ≡ c.spelled.back)
     counted = number_once l.number c.spelled.front (l.front ++ rest) c.spelled.back number c.spelled.value l.counts c.spelled.is_first (sym l.parts ∙ c.spelled.parts)
 

@@ -15,7 +15,7 @@ use Rattle.refusal_place.specs.declared.place.Fault.{Fault}
 use Rattle.refusal_place.specs.declared.place.Fault.TheVariants as fault
 use Rattle.refusal_place.specs.declared.place.Place.{Place}
 use Rattle.refusal_place.specs.Kinds.{id_of, OfEntries}
-use Rattle.refusal_place.specs.Places.{IsInContents, HasWrongContents, IsOpenWhereItEnds, EndsInside, IsWrong, Lists, IsFirstUnspelled, IsFirstStopped, HasRemainder}
+use Rattle.refusal_place.specs.Places.{IsInContents, HasWrongContents, IsOpenWhereItEnds, EndsInside, IsWrong, ListsEntries, IsFirstUnspelled, IsFirstStopped, HasRemainder}
 use Rattle.refusal_place.specs.Found.{after_id_at, AreUnread, IsDecidedAfter, IsAfterId, place_of_size, place_of_cut}
 use Rattle.refusal_place.proofs.AfterId.{judged, no_number, size_decides, contents_decide}
 
@@ -53,7 +53,7 @@ size_is_wrong start k sized f e = record {
 
 -- ---- where the fault is in the contents
 
-pub lists_within : {A : Type 0} (part : Part A) (contents : List ℕ) (entry offset count : ℕ) (rest : List ℕ) → Lists part contents entry offset count rest
+pub lists_within : {A : Type 0} (part : Part A) (contents : List ℕ) (entry offset count : ℕ) (rest : List ℕ) → ListsEntries part contents entry offset count rest
     → offset ≤ length contents
 lists_within part contents entry offset count rest l =
     omega (arith, l.offset_is, ap length l.parts, length-append l.number (l.front ++ rest), length-append l.front rest)

@@ -6,13 +6,13 @@ use Rattle.refusal_place.specs.declared.kind.SectionKind.{SectionKind}
 use Rattle.refusal_place.specs.declared.kind.SectionKind.TheVariants as kind
 use Rattle.refusal_place.specs.declared.place.Fault.{Fault}
 use Rattle.refusal_place.specs.Kinds.{id_of, OfEntries}
-use Rattle.refusal_place.specs.Places.{IsUnspelled, IsUnread, Lists, IsInContents, HasContents, ComesTo}
+use Rattle.refusal_place.specs.Places.{IsUnspelled, IsUnread, ListsEntries, IsInContents, HasContents, ComesTo}
 
 -- an entry below the count begins here, after those before it
 pub record HasEntry {A : Type 0} (part : Part A) (contents : List ℕ) (entry offset : ℕ) : Type 0 where
   pub count : ℕ
   pub rest : List ℕ
-  pub lists : Lists part contents entry offset count rest
+  pub lists : ListsEntries part contents entry offset count rest
   pub listed : entry < count
 
 -- an entry of a section of this kind begins at this byte

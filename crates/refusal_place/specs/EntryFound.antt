@@ -12,7 +12,7 @@ use Rattle.refusal_place.specs.Entries.{HasEntry, HasNoEntry, SectionHasNoEntry}
 -- ---- in a list of entries
 
 -- the entry is below the count, and those before it are read
-pub record IsListed {A : Type 0} (read : Reader A) (contents : List ℕ) (entry offset : ℕ) : Type 0 where
+pub record IsEntryBelowCount {A : Type 0} (read : Reader A) (contents : List ℕ) (entry offset : ℕ) : Type 0 where
   pub count : ℕ
   pub rest : List ℕ
   pub up_to : ReadsUpTo read contents entry offset count rest
@@ -34,7 +34,7 @@ pub record IsAfterUnread {A : Type 0} (read : Reader A) (contents : List ℕ) (e
   pub is_earlier : earlier < entry
 
 abbrev pub IsEntryFound : {A : Type 0} → Reader A → List ℕ → ℕ → Option ℕ → Type 0
-IsEntryFound read contents entry (Some offset) = IsListed read contents entry offset
+IsEntryFound read contents entry (Some offset) = IsEntryBelowCount read contents entry offset
 IsEntryFound read contents entry None = (unsigned_at 32 contents ≡ Err Bad) ⊎ (ReadsFewer contents entry ⊎ IsAfterUnread read contents entry)
 
 -- ---- in the contents of a section, and in a section

@@ -40,7 +40,7 @@ pub record IsInHeader (bytes : List ℕ) (p : Place) : Type 0 where
 -- ---- in the contents of a section
 
 -- the count, `entry` entries, and then what is left
-pub record Lists {A : Type 0} (part : Part A) (contents : List ℕ) (entry offset count : ℕ) (rest : List ℕ) : Type 0 where
+pub record ListsEntries {A : Type 0} (part : Part A) (contents : List ℕ) (entry offset count : ℕ) (rest : List ℕ) : Type 0 where
   pub number : List ℕ
   pub front : List ℕ
   pub entries : List A
@@ -53,7 +53,7 @@ pub record Lists {A : Type 0} (part : Part A) (contents : List ℕ) (entry offse
 pub record IsFirstUnspelled {A : Type 0} (part : Part A) (contents : List ℕ) (entry offset : ℕ) : Type 0 where
   pub count : ℕ
   pub rest : List ℕ
-  pub lists : Lists part contents entry offset count rest
+  pub lists : ListsEntries part contents entry offset count rest
   pub listed : entry < count
   pub unspelled : IsUnspelled part rest
 
@@ -61,7 +61,7 @@ pub record IsFirstUnspelled {A : Type 0} (part : Part A) (contents : List ℕ) (
 pub record IsFirstStopped {A : Type 0} (w : What) (part : Part A) (contents : List ℕ) (entry offset : ℕ) : Type 0 where
   pub count : ℕ
   pub rest : List ℕ
-  pub lists : Lists part contents entry offset count rest
+  pub lists : ListsEntries part contents entry offset count rest
   pub listed : entry < count
   pub stops : part.stops rest w
 
@@ -69,7 +69,7 @@ pub record IsFirstStopped {A : Type 0} (w : What) (part : Part A) (contents : Li
 pub record HasRemainder {A : Type 0} (part : Part A) (contents : List ℕ) (offset : ℕ) : Type 0 where
   pub count : ℕ
   pub rest : List ℕ
-  pub lists : Lists part contents count offset count rest
+  pub lists : ListsEntries part contents count offset count rest
   pub left : 0 < length rest
 
 -- what is wrong with the contents of a section of a kind: which entry, and how far from their start

@@ -2,7 +2,7 @@
 use Rattle.std.specs.Prelude.{◌≡◌, ◌≢◌, ◌⊎◌, ℕ, ◌+◌, ◌<◌, ◌≤◌, ◌^◌, List, [], ◌∷◌, ◌++◌, length, drop, All, Option, Some, None}
 use Rattle.wasm_spec.specs.Grammar.{header, section, section_id}
 use Rattle.refusal_place.specs.declared.kind.SectionKind.{SectionKind}
-use Rattle.refusal_place.specs.declared.seek.Contents.{Contents}
+use Rattle.refusal_place.specs.declared.seek.FoundContents.{FoundContents}
 use Rattle.refusal_place.specs.Kinds.{id_of}
 use Rattle.refusal_place.specs.Places.{IsUnread, HasContents, ComesTo}
 use Rattle.refusal_place.specs.Contents.{SectionHasNoContents}
@@ -35,6 +35,6 @@ pub record AreTheContents (k : SectionKind) (rest contents : List ℕ) (before :
   pub has : HasContents k rest contents before
   pub within : before + length contents ≤ length rest
 
-abbrev pub AreContentsIn : SectionKind → List ℕ → Option Contents → Type 0
+abbrev pub AreContentsIn : SectionKind → List ℕ → Option FoundContents → Type 0
 AreContentsIn k rest (Some found) = AreTheContents k rest found.contents.now found.before
 AreContentsIn k rest None = SectionHasNoContents k rest

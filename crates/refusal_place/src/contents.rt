@@ -4,7 +4,7 @@ ghost use Rattle.std.specs.Prelude.{◌≡◌, None, Some, IfOk};
 ghost use Rattle.refusal_place.specs.Found.{AreUnread};
 ghost use Rattle.refusal_place.specs.Places.{IsInContents};
 
-use crate::entries::{Single, entries_fault};
+use crate::entries::{InputEntryReader, entries_fault};
 use crate::kind::SectionKind;
 use crate::place::Fault;
 use entity_map::OutOfMemory;
@@ -50,17 +50,19 @@ pub(crate) fn contents_fault(
     match section {
         SectionKind::Custom => custom_fault(contents),
         SectionKind::Start | SectionKind::DataCount => Ok(ContentsFault::at_start(Fault::Number)),
-        SectionKind::Type => entries_fault::<Single<RecGroup>>(alloc, contents),
+        SectionKind::Type => entries_fault::<InputEntryReader<RecGroup>>(alloc, contents),
         SectionKind::Import => entries_fault::<Import<'_>>(alloc, contents),
-        SectionKind::Function => entries_fault::<Single<DefinedFunction>>(alloc, contents),
+        SectionKind::Function => entries_fault::<InputEntryReader<DefinedFunction>>(
+            alloc, contents,
+        ),
         SectionKind::Table => entries_fault::<TableDef>(alloc, contents),
         SectionKind::Memory => entries_fault::<MemoryType>(alloc, contents),
-        SectionKind::Tag => entries_fault::<Single<DefinedTag>>(alloc, contents),
-        SectionKind::Global => entries_fault::<Single<GlobalDef>>(alloc, contents),
+        SectionKind::Tag => entries_fault::<InputEntryReader<DefinedTag>>(alloc, contents),
+        SectionKind::Global => entries_fault::<InputEntryReader<GlobalDef>>(alloc, contents),
         SectionKind::Export => entries_fault::<Export<'_>>(alloc, contents),
-        SectionKind::Element => entries_fault::<Single<Element>>(alloc, contents),
+        SectionKind::Element => entries_fault::<InputEntryReader<Element>>(alloc, contents),
         SectionKind::Code => entries_fault::<FunctionBody<'_>>(alloc, contents),
-        SectionKind::Data => entries_fault::<Single<DataSegment<'_>>>(alloc, contents),
+        SectionKind::Data => entries_fault::<InputEntryReader<DataSegment<'_>>>(alloc, contents),
     }
 }
 

@@ -14,11 +14,11 @@ use std::alloc::Global;
 use std::marker::PhantomData;
 
 /// Reads singly the entries that `read_module` leaves in the input.
-pub(crate) struct Single<E> {
+pub(crate) struct InputEntryReader<E> {
     kind: PhantomData<E>,
 }
 
-impl<'d, E: InputEntry<'d>> Entry<'d> for Single<E> {
+impl<'d, E: InputEntry<'d>> Entry<'d> for InputEntryReader<E> {
     type Value = E::Value;
 
     ghost Seen = { E.Seen };

@@ -7,7 +7,7 @@ ghost use Rattle.refusal_place.specs.Found.{Shortens};
 ghost use Rattle.refusal_place.specs.Kinds.{id_of};
 ghost use Rattle.refusal_place.specs.Listed.{ListsAtMost};
 
-use crate::entries::{Single, pass_entry};
+use crate::entries::{InputEntryReader, pass_entry};
 use crate::kind::SectionKind;
 use crate::numbers::read_number;
 use crate::seek::{contents_in_section, seek_section};
@@ -73,17 +73,21 @@ fn entry_in_contents(
 {
     match section {
         SectionKind::Custom | SectionKind::Start | SectionKind::DataCount => Ok(None),
-        SectionKind::Type => listed_entry::<Single<RecGroup>>(alloc, contents, entry),
+        SectionKind::Type => listed_entry::<InputEntryReader<RecGroup>>(alloc, contents, entry),
         SectionKind::Import => listed_entry::<Import<'_>>(alloc, contents, entry),
-        SectionKind::Function => listed_entry::<Single<DefinedFunction>>(alloc, contents, entry),
+        SectionKind::Function => listed_entry::<InputEntryReader<DefinedFunction>>(
+            alloc, contents, entry,
+        ),
         SectionKind::Table => listed_entry::<TableDef>(alloc, contents, entry),
         SectionKind::Memory => listed_entry::<MemoryType>(alloc, contents, entry),
-        SectionKind::Tag => listed_entry::<Single<DefinedTag>>(alloc, contents, entry),
-        SectionKind::Global => listed_entry::<Single<GlobalDef>>(alloc, contents, entry),
+        SectionKind::Tag => listed_entry::<InputEntryReader<DefinedTag>>(alloc, contents, entry),
+        SectionKind::Global => listed_entry::<InputEntryReader<GlobalDef>>(alloc, contents, entry),
         SectionKind::Export => listed_entry::<Export<'_>>(alloc, contents, entry),
-        SectionKind::Element => listed_entry::<Single<Element>>(alloc, contents, entry),
+        SectionKind::Element => listed_entry::<InputEntryReader<Element>>(alloc, contents, entry),
         SectionKind::Code => listed_entry::<FunctionBody<'_>>(alloc, contents, entry),
-        SectionKind::Data => listed_entry::<Single<DataSegment<'_>>>(alloc, contents, entry),
+        SectionKind::Data => listed_entry::<InputEntryReader<DataSegment<'_>>>(
+            alloc, contents, entry,
+        ),
     }
 }
 

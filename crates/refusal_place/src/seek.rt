@@ -68,7 +68,7 @@ pub(crate) fn seek_section(
 
 /// The contents of a section.
 #[derive(Clone, Copy)]
-pub(crate) struct Contents<'d> {
+pub(crate) struct FoundContents<'d> {
     /// How far behind the start of the section they begin.
     pub before: usize,
     pub contents: &'d [u8],
@@ -78,7 +78,7 @@ pub(crate) struct Contents<'d> {
 pub(crate) fn contents_in_section(
     section: SectionKind,
     sized: &[u8],
-) -> Result<Option<Contents<'_>>, OutOfMemory>
+) -> Result<Option<FoundContents<'_>>, OutOfMemory>
     ensures { IfOk result (AreContentsIn section (id_of section ∷ sized.now)) }
 {
     let mut cursor = Cursor { rest: sized };
@@ -89,7 +89,7 @@ pub(crate) fn contents_in_section(
     if cursor.rest.len() < size {
         return Ok(None);
     }
-    Ok(Some(Contents {
+    Ok(Some(FoundContents {
         before: 1 + (sized.len() - cursor.rest.len()),
         contents: &cursor.rest[..size],
     }))

@@ -25,7 +25,7 @@ use Rattle.rule_breaks.specs.declared.lists.Break.{Break}
 use Rattle.rule_breaks.specs.declared.list_places.EntryPlace.{EntryPlace}
 use Rattle.rule_breaks.specs.declared.refused.BrokenRule.{BrokenRule}
 use Rattle.rule_breaks.specs.Breaks.{IsFirstBreak}
-use Rattle.rule_breaks.specs.BrokenAt.{HasSectionEntry, IsBrokenAt, IsInSection}
+use Rattle.rule_breaks.specs.BrokenAt.{HasSectionEntry, IsBrokenAt, HasEntryInSection}
 use Rattle.rule_breaks.specs.Faults.{IsFaultOf}
 use Rattle.rule_breaks.specs.Refused.{BreaksFirst}
 use Rattle.rule_breaks.specs.ListPlaces.{LacksIfRead}
@@ -160,12 +160,12 @@ number_there m s e (inr is) has none = data_count_there m e (rw is at has) (rw i
 -- ---- so it is found where there is one
 
 pub none_number : {E : Type 0} (bytes : List ℕ) (s : SectionKind) (e : ℕ) → (s ≡ kind.Start) ⊎ (s ≡ kind.DataCount) → (r : Result (Option ℕ) E)
-    → IfOk r (λ place. place ≡ None → HasNoSection bytes s) → IfOk r (λ place. place ≡ None → IsInSection bytes s e → ⊥)
+    → IfOk r (λ place. place ≡ None → HasNoSection bytes s) → IfOk r (λ place. place ≡ None → HasEntryInSection bytes s e → ⊥)
 none_number bytes s e is (Ok place) none = λ at r. number_there r.of s e is r.has (none at r.few r.of r.spelled r.no_interface_types)
 none_number bytes s e is (Err x) none = tt
 
 pub none_listed : {E : Type 0} (bytes : List ℕ) (s : SectionKind) (e : ℕ) → s ≢ kind.Start → s ≢ kind.DataCount → (r : Result (Option ℕ) E)
-    → IfOk r (λ place. place ≡ None → ListsAtMost bytes s e) → IfOk r (λ place. place ≡ None → IsInSection bytes s e → ⊥)
+    → IfOk r (λ place. place ≡ None → ListsAtMost bytes s e) → IfOk r (λ place. place ≡ None → HasEntryInSection bytes s e → ⊥)
 none_listed bytes s e start count (Ok place) none = λ at r. listed_there r.of s e start count r.has (none at r.few r.of r.spelled r.no_interface_types)
 none_listed bytes s e start count (Err x) none = tt
 

@@ -31,7 +31,7 @@ HasSectionEntry m kind.DataCount entry = 0 < length (flat_map plain.data_counts_
 HasSectionEntry m section entry = entry < listed_count section m
 
 -- fewer than 2^30 bytes spell a module that has this entry of a section
-pub record IsInSection (bytes : List ℕ) (section : SectionKind) (entry : ℕ) : Type 0 where
+pub record HasEntryInSection (bytes : List ℕ) (section : SectionKind) (entry : ℕ) : Type 0 where
   pub of : Module
   pub few : length bytes < 2 ^ 30
   pub spelled : Spells bytes of

@@ -14,7 +14,7 @@ pub record IsPlacedAt (bytes : List ℕ) (m : Module) (place : Break) (p : Entry
   pub byte : BeginsAt bytes p.section p.section_entry p.byte
 
 -- the bytes spell a module that has the entry there
-pub record IsPlaceOf (bytes : List ℕ) (place : Break) (p : EntryPlace) : Type 0 where
+pub record IsEntryPlaceOf (bytes : List ℕ) (place : Break) (p : EntryPlace) : Type 0 where
   pub of : Module
   pub spelled : Spells bytes of
   pub no_interface_types : HasNoInterfaceTypes of

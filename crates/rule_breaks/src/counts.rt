@@ -15,7 +15,7 @@ use crate::numbers::{next_number, numbered};
 use crate::segments::count_segments;
 use entity_map::OutOfMemory;
 use form_reader::{FunctionBody, Payload};
-use form_rules::{Lists, Section, Source, count_entries, sections_of};
+use form_rules::{Lists, ModuleSource, Section, count_entries, sections_of};
 use rule_spec::Rule;
 use std::alloc::{AllocError, Global};
 
@@ -64,7 +64,7 @@ fn break_of_body_count(lists: &Lists<'_, '_>) -> Result<Option<Break>, AllocErro
 }
 
 /// The first stated number of data segments that is not this number.
-fn first_other_count(source: Source<'_, '_>, count: u32) -> Result<Option<u32>, AllocError>
+fn first_other_count(source: ModuleSource<'_, '_>, count: u32) -> Result<Option<u32>, AllocError>
     ensures { IfOk result (Finds (λ stated. stated ≡ count) (flat_map data_counts_of_section (source_module source.entry))) }
 {
     let mut number = 0;

@@ -11,7 +11,7 @@ ghost use Rattle.rule_breaks.specs.TypeFlags.{function_flags, is_function as is_
 
 use crate::numbers::{next_number, numbered};
 use form_reader::{CompositeInnerType, RecGroup, SubType};
-use form_rules::{Source, walk_of};
+use form_rules::{ModuleSource, walk_of};
 use form_types::{is_function, names_below};
 use std::alloc::{AllocError, Global};
 use wasm_spec::UnpackedIndex;
@@ -21,7 +21,10 @@ use wasm_spec::UnpackedIndex;
 ///
 /// # Errors
 /// `AllocError` where a group finds no memory.
-pub fn first_bad_type(alloc: Global, source: Source<'_, '_>) -> Result<Option<u32>, AllocError>
+pub fn first_bad_type(
+    alloc: Global,
+    source: ModuleSource<'_, '_>,
+) -> Result<Option<u32>, AllocError>
     ensures { let l = lists_of_module (source_module source.entry) in IfOk result (Finds (IsDeclaredWell l) l.types) }
 {
     let functions = functions_in(alloc, source)?;
@@ -62,7 +65,10 @@ fn first_bad_member(
 }
 
 /// Of each declared type, whether it is a function type.
-pub(crate) fn functions_in(alloc: Global, source: Source<'_, '_>) -> Result<Vec<bool>, AllocError>
+pub(crate) fn functions_in(
+    alloc: Global,
+    source: ModuleSource<'_, '_>,
+) -> Result<Vec<bool>, AllocError>
     ensures { IfOk result (λ flags. flags.items ≡ function_flags (groups (source_module source.entry))) }
 {
     let mut flags = Vec::new(alloc);

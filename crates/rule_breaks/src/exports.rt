@@ -15,7 +15,7 @@ use crate::lists::{Break, ModuleList, at};
 use crate::numbers::next_number;
 use entity_map::{NameDigest, OutOfMemory, StringPool};
 use form_reader::Export;
-use form_rules::{Lists, Source, entries_of};
+use form_rules::{Lists, ModuleSource, entries_of};
 use rule_spec::Rule;
 use std::alloc::Global;
 
@@ -36,7 +36,7 @@ pub(crate) fn break_of_exports(
 }
 
 /// The first export whose name an earlier export has.
-fn first_repeated(alloc: Global, source: Source<'_, '_>) -> Result<Option<u32>, OutOfMemory>
+fn first_repeated(alloc: Global, source: ModuleSource<'_, '_>) -> Result<Option<u32>, OutOfMemory>
     ensures { IfOk result (FindsRepeated (flat_map exports_of_section (source_module source.entry))) }
 {
     let mut pool = StringPool::seeded(alloc, seed_of_exports(source));
@@ -65,7 +65,7 @@ fn insert_new(pool: &mut StringPool, text: &str) -> Result<bool, OutOfMemory>
 
 /// A digest of the names of exports, from which hashes begin: choosing names to
 /// collide changes it.
-fn seed_of_exports(source: Source<'_, '_>) -> u64 {
+fn seed_of_exports(source: ModuleSource<'_, '_>) -> u64 {
     let mut digest = NameDigest::new();
     for export in entries_of::<Export<'_>>(source) {
         digest.write(export.name.as_bytes());

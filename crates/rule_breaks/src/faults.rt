@@ -22,7 +22,7 @@ use crate::faults_types::fault_of_type;
 use crate::lists::{Break, ModuleList};
 use entity_map::OutOfMemory;
 use form_reader::Form;
-use form_rules::{DeclaredTypes, Lists, Source, gather_lists};
+use form_rules::{DeclaredTypes, Lists, ModuleSource, gather_lists};
 use form_types::{Validator, numbering_of_form};
 use rule_spec::Rule;
 use std::alloc::{AllocError, Global};
@@ -106,7 +106,7 @@ fn fault_of_declared(alloc: Global, form: &Form<'_>, place: Break) -> Result<Rul
     ensures { IfOk result (IsFaultOf Rule.L1 (lists_of_module (module_of form.now)) place.list place.entry) }
 {
     match place.list {
-        ModuleList::Types => Ok(fault_of_type(alloc, Source::Form(form), place.entry)?),
+        ModuleList::Types => Ok(fault_of_type(alloc, ModuleSource::Form(form), place.entry)?),
         _ => unreachable!(),
     }
 }
@@ -126,7 +126,7 @@ fn fault_of_lists(
     let numbering = numbering_of_form(alloc, form)?;
     match numbering.into_types(&Validator::new(0)) {
         Some(types) => {
-            let source = Source::Form(form);
+            let source = ModuleSource::Form(form);
             let lists = gather_lists(alloc, source, DeclaredTypes::new(&types, source))?;
             rule_fault(alloc, &lists, rule, place)
         }

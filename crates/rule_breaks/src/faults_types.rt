@@ -14,14 +14,14 @@ use crate::declared::functions_in;
 use crate::fault::{IndexSpace, RuleFault};
 use crate::named::{index_past, kind_past};
 use form_reader::{CompositeInnerType, RecGroup, SubType};
-use form_rules::{Source, walk_of};
+use form_rules::{ModuleSource, walk_of};
 use std::alloc::{AllocError, Global};
 use wasm_spec::UnpackedIndex;
 
 /// What is wrong with the declared type that has this index.
 pub(crate) fn fault_of_type(
     alloc: Global,
-    source: Source<'_, '_>,
+    source: ModuleSource<'_, '_>,
     entry: u32,
 ) -> Result<RuleFault, AllocError>
     requires { let l = lists_of_module (source_module source) in At l.types entry (λ d. ¬ IsDeclaredWell l d) }

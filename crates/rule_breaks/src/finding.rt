@@ -10,11 +10,14 @@ ghost use Rattle.form_rules.specs.Walk.{walk_left, standing};
 use crate::counts::stated_in;
 use crate::indices::start_in;
 use form_reader::InputEntry;
-use form_rules::{Entry, Source, Walk, entries_of, sections_of};
+use form_rules::{FormEntry, ModuleSource, Walk, entries_of, sections_of};
 use std::alloc::AllocError;
 
 /// The entry that has this number.
-pub(crate) fn entry_at<'f, 'd, T: Entry<'d>>(source: Source<'f, 'd>, entry: u32) -> Option<&'f T>
+pub(crate) fn entry_at<'f, 'd, T: FormEntry<'d>>(
+    source: ModuleSource<'f, 'd>,
+    entry: u32,
+) -> Option<&'f T>
     ensures { option_map (λ x. T.seen x.now) result ≡ slice_get (flat_map T.of_section (source_module source.entry)) entry }
 {
     let mut left = entry;
@@ -47,7 +50,7 @@ pub(crate) fn advance_to<'d, E: InputEntry<'d, Value = E>>(
 }
 
 /// The stated number of data segments that has this number among those that are stated.
-pub(crate) fn stated_at(source: Source<'_, '_>, entry: u32) -> Option<u32>
+pub(crate) fn stated_at(source: ModuleSource<'_, '_>, entry: u32) -> Option<u32>
     ensures { result ≡ slice_get (flat_map data_counts_of_section (source_module source.entry)) entry }
 {
     let mut left = entry;
@@ -64,7 +67,7 @@ pub(crate) fn stated_at(source: Source<'_, '_>, entry: u32) -> Option<u32>
 }
 
 /// The start function that has this number among those that are listed.
-pub(crate) fn start_at(source: Source<'_, '_>, entry: u32) -> Option<u32>
+pub(crate) fn start_at(source: ModuleSource<'_, '_>, entry: u32) -> Option<u32>
     ensures { result ≡ slice_get (flat_map starts_of_section (source_module source.entry)) entry }
 {
     let mut left = entry;

@@ -12,7 +12,7 @@ use crate::declared::first_bad_type;
 use crate::lists::{Break, ModuleList, at};
 use entity_map::OutOfMemory;
 use form_reader::Form;
-use form_rules::{DeclaredTypes, Source, gather_lists};
+use form_rules::{DeclaredTypes, ModuleSource, gather_lists};
 use form_types::{Validator, numbering_of_form};
 use rule_spec::Rule;
 use std::alloc::Global;
@@ -49,7 +49,7 @@ fn located_in_form(alloc: Global, form: &Form<'_>, rule: Rule) -> Result<Option<
 fn break_of_declared(alloc: Global, form: &Form<'_>) -> Result<Option<Break>, OutOfMemory>
     ensures { IfOk result (Locates Rule.L1 (lists_of_module (module_of form.now))) }
 {
-    match first_bad_type(alloc, Source::Form(form))? {
+    match first_bad_type(alloc, ModuleSource::Form(form))? {
         Some(entry) => Ok(at(ModuleList::Types, entry)),
         None => Ok(None),
     }
@@ -63,7 +63,7 @@ fn break_of_lists(alloc: Global, form: &Form<'_>, rule: Rule) -> Result<Option<B
     let numbering = numbering_of_form(alloc, form)?;
     match numbering.into_types(&Validator::new(0)) {
         Some(types) => {
-            let source = Source::Form(form);
+            let source = ModuleSource::Form(form);
             let lists = gather_lists(alloc, source, DeclaredTypes::new(&types, source))?;
             located(alloc, &lists, rule)
         }

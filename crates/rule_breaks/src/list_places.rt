@@ -4,8 +4,8 @@ ghost use Rattle.std.specs.Prelude.{◌≡◌, ◌<◌, ◌^◌, None, length, I
 ghost use Rattle.wasm_spec.specs.Grammar.{Spells};
 ghost use Rattle.wasm_spec.specs.Interfaces.{HasNoInterfaceTypes};
 ghost use Rattle.form_reader.specs.Views.{module_of};
-ghost use Rattle.rule_breaks.specs.BrokenAt.{IsInSection};
-ghost use Rattle.rule_breaks.specs.ListPlaces.{IsPlacedAt, IsPlaceOf, LacksIfRead};
+ghost use Rattle.rule_breaks.specs.BrokenAt.{HasEntryInSection};
+ghost use Rattle.rule_breaks.specs.ListPlaces.{IsPlacedAt, IsEntryPlaceOf, LacksIfRead};
 ghost use Rattle.rule_breaks.specs.Listed.{IsListed};
 ghost use Rattle.rule_breaks.specs.SectionEntries.{BeginsAt};
 
@@ -13,7 +13,7 @@ use crate::lists::Break;
 use crate::section_entries::{SectionEntry, section_entry};
 use entity_map::OutOfMemory;
 use form_reader::{Form, ReadError, read_module};
-use form_rules::Source;
+use form_rules::ModuleSource;
 use refusal_place::{SectionKind, contents_place, entry_place};
 use std::alloc::Global;
 
@@ -39,7 +39,7 @@ pub fn list_entry_place(
     bytes: &[u8],
     place: Break,
 ) -> Result<Option<EntryPlace>, OutOfMemory>
-    ensures found { IfOk result (λ p. IfSome p (IsPlaceOf bytes.now place)) }
+    ensures found { IfOk result (λ p. IfSome p (IsEntryPlaceOf bytes.now place)) }
     ensures none { IfOk result (λ p. p ≡ None → LacksIfRead bytes.now place) }
 {
     let form = match read_module(alloc, bytes) {
@@ -65,7 +65,11 @@ pub(crate) fn entry_place_in(
     ensures found { IfOk result (λ p. IfSome p (IsPlacedAt bytes.now (module_of form.now) place)) }
     ensures none { IfOk result (λ p. p ≡ None → ¬ IsListed (module_of form.now) place.list place.entry) }
 {
-    let Some(SectionEntry { section, entry }) = section_entry(alloc, Source::Form(form), place)?
+    let Some(SectionEntry { section, entry }) = section_entry(
+        alloc,
+        ModuleSource::Form(form),
+        place,
+    )?
     else {
         return Ok(None);
     };
@@ -87,7 +91,7 @@ fn section_entry_place(
     entry: u32,
 ) -> Result<Option<u32>, OutOfMemory>
     ensures found { IfOk result (λ byte. IfSome byte (BeginsAt bytes.now section entry)) }
-    ensures none { IfOk result (λ byte. byte ≡ None → ¬ IsInSection bytes.now section entry) }
+    ensures none { IfOk result (λ byte. byte ≡ None → ¬ HasEntryInSection bytes.now section entry) }
 {
     match section {
         SectionKind::Start | SectionKind::DataCount => contents_place(alloc, bytes, section),

@@ -10,7 +10,7 @@ ghost use Rattle.rule_breaks.specs.SectionEntries.{IsEntryOf, IsGroupOf};
 use crate::lists::{Break, ModuleList};
 use crate::numbers::next_number;
 use form_reader::{Import, RecGroup};
-use form_rules::{Source, entries_of, walk_of};
+use form_rules::{ModuleSource, entries_of, walk_of};
 use refusal_place::SectionKind;
 use std::alloc::{AllocError, Global};
 use wasm_spec::{ExternalKind, TypeRef};
@@ -28,7 +28,7 @@ pub(crate) struct SectionEntry {
 /// entry.
 pub(crate) fn section_entry(
     alloc: Global,
-    source: Source<'_, '_>,
+    source: ModuleSource<'_, '_>,
     place: Break,
 ) -> Result<Option<SectionEntry>, AllocError>
     ensures found { IfOk result (λ e. IfSome e (λ e. IsEntryOf (source_module source.entry) place.list place.entry e.section e.entry)) }
@@ -44,7 +44,7 @@ pub(crate) fn section_entry(
 }
 
 /// The entry of a section that has the entry of a list other than that of types.
-fn other_entry(source: Source<'_, '_>, place: Break) -> Result<SectionEntry, AllocError>
+fn other_entry(source: ModuleSource<'_, '_>, place: Break) -> Result<SectionEntry, AllocError>
     requires { place.list ≢ ModuleList.Types }
     ensures { IfOk result (λ e. IsEntryOf (source_module source.entry) place.list place.entry e.section e.entry) }
 {
@@ -83,7 +83,7 @@ fn entry_in(section: SectionKind, entry: u32) -> SectionEntry
 /// The recursion group that has the type with this index; none where there is no such type.
 fn group_of_type(
     alloc: Global,
-    source: Source<'_, '_>,
+    source: ModuleSource<'_, '_>,
     index: u32,
 ) -> Result<Option<u32>, AllocError>
     ensures found { IfOk result (λ group. IfSome group (IsGroupOf (groups (source_module source.entry)) index)) }
@@ -106,7 +106,7 @@ fn group_of_type(
 /// The import that has this index of an index space, or the entry that does of the section that
 /// defines what is not imported.
 fn indexed_entry(
-    source: Source<'_, '_>,
+    source: ModuleSource<'_, '_>,
     kind: ExternalKind,
     defining: SectionKind,
     index: u32,

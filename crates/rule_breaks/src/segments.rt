@@ -10,7 +10,7 @@ ghost use Rattle.rule_breaks.specs.Kept.{SegmentKeeps};
 
 use crate::numbers::next_number;
 use form_reader::DataSegment;
-use form_rules::{Source, Typing, data_kind_refers, names_memory, segment_is_typed, walk_of};
+use form_rules::{ModuleSource, Typing, data_kind_refers, names_memory, segment_is_typed, walk_of};
 use rule_spec::{Class, Rule};
 use std::alloc::{AllocError, Global};
 
@@ -51,7 +51,10 @@ fn segment_keeps(
 }
 
 /// How many data segments there are.
-pub(crate) fn count_segments<'d>(alloc: Global, source: Source<'_, 'd>) -> Result<u32, AllocError>
+pub(crate) fn count_segments<'d>(
+    alloc: Global,
+    source: ModuleSource<'_, 'd>,
+) -> Result<u32, AllocError>
     ensures { IfOk result (λ count. count ≡ length (segments (source_module source.entry))) }
 {
     let mut count = 0;

@@ -2,7 +2,7 @@
 use Rattle.std.specs.Prelude.{ℕ, ◌<◌, All, IfSome, IsSomeAnd}
 use Rattle.wasm_spec.specs.declared.types.UnpackedIndex.{UnpackedIndex}
 use Rattle.wasm_spec.specs.declared.types.UnpackedIndex.TheVariants.{Module}
-use Rattle.wasm_spec.specs.TypeData.{Heap, Value, Composite, Func, Cont, heap_edges, value_edges, composite_edges}
+use Rattle.wasm_spec.specs.TypeData.{Heap, ValueType, Composite, Func, Cont, heap_edges, value_edges, composite_edges}
 use Rattle.rule_spec.specs.Lists.{Declared, Lists, kind_at}
 
 -- ---- indices below a bound
@@ -16,7 +16,7 @@ IsBelow bound _ = ⊥
 unfoldable pub HeapIsBelow : ℕ → Heap UnpackedIndex → Type 0
 HeapIsBelow bound h = All (IsBelow bound) (heap_edges (λ i. i) h)
 
-unfoldable pub ValueIsBelow : ℕ → Value UnpackedIndex → Type 0
+unfoldable pub ValueIsBelow : ℕ → ValueType UnpackedIndex → Type 0
 ValueIsBelow bound v = All (IsBelow bound) (value_edges (λ i. i) v)
 
 unfoldable pub KindIsBelow : ℕ → Composite UnpackedIndex UnpackedIndex → Type 0

@@ -7,7 +7,7 @@ use Rattle.wasm_spec.specs.declared.entities.GlobalType.{GlobalType}
 use Rattle.wasm_spec.specs.declared.operators.Operator.{Operator}
 use Rattle.wasm_spec.specs.declared.operators.Operator.TheVariants as op
 use Rattle.wasm_spec.specs.declared.types.UnpackedIndex.{UnpackedIndex}
-use Rattle.wasm_spec.specs.TypeData.{Value, I32, I64, F32, F64, V128, Ref, Storage, Val, Field, Composite, Array, Struct, value_of}
+use Rattle.wasm_spec.specs.TypeData.{ValueType, I32, I64, F32, F64, V128, Ref, Storage, Val, Field, Composite, Array, Struct, value_of}
 use Rattle.wasm_spec.specs.Module.{Expression}
 use Rattle.rule_spec.specs.declared.classes.Class.{Class}
 use Rattle.rule_spec.specs.declared.classes.Class.TheVariants as class
@@ -17,7 +17,7 @@ use Rattle.rule_spec.specs.Lists.{Lists, kind_at}
 
 -- ---- classes and defaults of types
 
-abbrev pub class_of : Value UnpackedIndex → Class
+abbrev pub class_of : ValueType UnpackedIndex → Class
 class_of I32 = class.I32
 class_of I64 = class.I64
 class_of F32 = class.F32
@@ -34,7 +34,7 @@ abbrev pub field_class : Field UnpackedIndex → Class
 field_class f = storage_class f.element
 
 -- numbers, vectors and nullable references have a default
-abbrev pub value_has_default : Value UnpackedIndex → Bool
+abbrev pub value_has_default : ValueType UnpackedIndex → Bool
 value_has_default (Ref reference) = reference.nullable
 value_has_default _ = true
 

@@ -25,7 +25,7 @@ use Rattle.init_plan.specs.declared.translation.ModuleTranslation.{ModuleTransla
 use Rattle.interned_types.specs.Types.{declared, interned_at, interned_list, type_index}
 use Rattle.interned_types.proofs.DeclaredLooks.{declared-long}
 use Rattle.plan_run.specs.Agreement.{HasFieldsOf}
-use Rattle.plan_run.specs.Fields.{field_count_in, length_or_zero, place_of}
+use Rattle.plan_run.specs.Fields.{field_count_in, length_or_zero, module_type_number}
 use Rattle.plan_run.proofs.Lists.{some-at}
 use Rattle.run_laws.proofs.FieldCounts.{fields_in, fields_at, declared-below, declared-fields, view-fields, fields-joined}
 
@@ -38,7 +38,7 @@ module _ (m : plain.Module) (t : ModuleTranslation) (types : TypeList) (startup 
   count_of o = length_or_zero (option_and_then (λ (ty : WasmSubType). struct_in ty.composite_type.inner) o)
 
   abbrev counted : Option EngineOrModuleTypeIndex → ℕ
-  counted o = count_of (option_and_then (slice_get types.types) (option_and_then place_of o))
+  counted o = count_of (option_and_then (slice_get types.types) (option_and_then module_type_number o))
 
   -- of a declared type
   fields-within : (index : ℕ) → index < length (plain.types m) → field_count_in t types index ≡ fields_of m index

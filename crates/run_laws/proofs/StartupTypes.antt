@@ -15,7 +15,7 @@ use Rattle.replay_spec.specs.Startup.{Startup, Never, Always, IfMemoriesNeedInit
 use Rattle.init_plan.specs.declared.translation.ModuleTranslation.{ModuleTranslation}
 use Rattle.init_plan.specs.Startup.{types_after}
 use Rattle.interned_types.specs.Types.{declared, interned_list, type_index}
-use Rattle.module_environ.specs.Translated.{IsTranslated, HoldsTypes, startup_index_when, starts_always}
+use Rattle.module_environ.specs.Translated.{IsTranslated, HoldsInternedTypes, startup_index_when, starts_always}
 use Rattle.translate.proofs.Unchanged.{both-planned}
 use Rattle.plan_run.specs.Agreement.{HasFieldsOf}
 use Rattle.run_laws.specs.Planned.{MemoriesArePlanned, TablesArePlanned, GainsStartup}
@@ -45,7 +45,7 @@ module _ (m : Module) where
   after IfMemoriesNeedInit (startup.Always ty) b h = h
   after IfMemoriesNeedInit (startup.IfMemoriesNeedInit ty) b h = h
 
-  first : (b : Builder) → HoldsTypes m b → HoldsListed m b
+  first : (b : Builder) → HoldsInternedTypes m b → HoldsListed m b
   first b h = record { starts = starts_always m; built = h.built; index = h.startup }
 
   gained : (t : ModuleTranslation) (old new : BuilderState) → GainsStartup t old new → HoldsListed m (builder_view old) → HoldsListed m (builder_view new)

@@ -8,7 +8,7 @@ use Rattle.plan_tables.specs.Spans.{spans_from}
 use Rattle.segment_tables.specs.Operators.{operator_row}
 
 -- each expression is a part of the operators, which are end to end
-pub record TellsExpressions (es : List Expression) (r : ExpressionsRecord) : Type 0 where
+pub record TellsReadExpressions (es : List Expression) (r : ExpressionsRecord) : Type 0 where
   pub parts : r.parts.now ≡ spans_from 0 (map length es)
   pub operators : r.operators.now ≡ flat_map (map operator_row) es
 

@@ -56,6 +56,6 @@ abbrev pub module_references : Module → List ℕ
 module_references m = flat_map section_references m
 
 -- the numbers of a list, each once and ascending
-pub record Listed (all ns : List ℕ) : Type 0 where
+pub record ListsOnce (all ns : List ℕ) : Type 0 where
   pub ascend : Ascend ns
   pub exact : (k : ℕ) → Contains ns k ↔ Contains all k

@@ -4,10 +4,10 @@ use Rattle.std.specs.List.{flat_map}
 use Rattle.wasm_spec.specs.Module.{Module, Expression, elements_of_section, segments}
 use Rattle.wasm_spec.specs.Grammar.{Spells}
 use Rattle.segment_tables.specs.declared.segment_rows.SegmentsRecord.{SegmentsRecord}
-use Rattle.segment_tables.specs.Expressions.{TellsExpressions}
+use Rattle.segment_tables.specs.Expressions.{TellsReadExpressions}
 use Rattle.segment_tables.specs.Elements.{functions_in, element_expressions, element_rows}
 use Rattle.segment_tables.specs.DataSegments.{data_told, data_rows, data_expressions}
-use Rattle.segment_tables.specs.References.{module_references, Listed}
+use Rattle.segment_tables.specs.References.{module_references, ListsOnce}
 use Rattle.wasm_spec.specs.Module as plain
 
 -- the element segments of a module
@@ -28,8 +28,8 @@ pub record TellsSegments (m : Module) (r : SegmentsRecord) : Type 0 where
   pub data_segments : map data_told r.data_segments.now ≡ data_rows (length (in_elements m)) (segments m)
   pub element_segments : r.element_segments.now ≡ element_rows 0 0 (elements m)
   pub functions : r.functions.now ≡ flat_map (λ e. functions_in e.items) (elements m)
-  pub expressions : TellsExpressions (module_expressions m) r.expressions
-  pub references : Listed (module_references m) r.references.now
+  pub expressions : TellsReadExpressions (module_expressions m) r.expressions
+  pub references : ListsOnce (module_references m) r.references.now
 
 -- the bytes spell a module, whose segments the record has
 pub record TellsSegmentsOf (bytes : List ℕ) (r : SegmentsRecord) : Type 0 where

@@ -3,7 +3,7 @@
 ghost use Rattle.std.specs.Prelude.{◌≡◌, ◌++◌, List, [], ◌∷◌, length, map, OnOk};
 ghost use Rattle.wasm_spec.specs.Module.{Expression};
 ghost use Rattle.form_reader.specs.Views.{expression_of};
-ghost use Rattle.segment_tables.specs.Expressions.{HasExpressions, TellsExpressions};
+ghost use Rattle.segment_tables.specs.Expressions.{HasExpressions, TellsReadExpressions};
 
 use crate::operators::push_operators;
 use entity_map::OutOfMemory;
@@ -58,7 +58,7 @@ pub(crate) fn push_expressions(
 
 /// The record of the expressions.
 pub(crate) fn expressions_record<'d>(rows: ExpressionRows) -> ExpressionsRecord<'d>
-    ensures { (es : List Expression) → HasExpressions es rows → TellsExpressions es result }
+    ensures { (es : List Expression) → HasExpressions es rows → TellsReadExpressions es result }
 {
     ExpressionsRecord {
         parts: rows.parts.leak(),

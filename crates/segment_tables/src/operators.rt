@@ -17,9 +17,9 @@ use wasm_spec::{HeapType, Operator, UnpackedIndex};
 use wasm_types::{EngineOrModuleTypeIndex, WasmHeapType};
 
 /// Knows each index of a type, as the function type 0.
-struct OneType;
+struct PlaceholderType;
 
-impl TypeConvert for OneType {
+impl TypeConvert for PlaceholderType {
     ghost knows = { λ _ i. ⊤ };
 
     ghost look_up = { λ _. one_type };
@@ -109,7 +109,7 @@ fn operator_row(op: &Operator) -> OperatorRow
         return null_row(hty);
     }
     let (bare, index) = without_index(*op);
-    let mut row = row_of(&ConstOp::from_wasmparser(&OneType, &bare));
+    let mut row = row_of(&ConstOp::from_wasmparser(&PlaceholderType, &bare));
     row.index = index;
     row
 }

@@ -4,7 +4,7 @@ ghost use Rattle.std.specs.Prelude.{◌≡◌, ℕ, ◌++◌, List, map, IfOk, O
 ghost use Rattle.std.specs.List.{flat_map};
 ghost use Rattle.wasm_spec.specs.Module as plain;
 ghost use Rattle.form_reader.specs.Views.{expression_of, table_of, global_of, export_of, items_of, element_of, segment_of, payload_of};
-ghost use Rattle.segment_tables.specs.References.{referred_by, referred, table_references, global_references, export_references, item_references, element_references, data_references, section_references, module_references, Listed};
+ghost use Rattle.segment_tables.specs.References.{referred_by, referred, table_references, global_references, export_references, item_references, element_references, data_references, section_references, module_references, ListsOnce};
 
 use entity_map::OutOfMemory;
 use form_reader::{
@@ -182,7 +182,7 @@ pub(crate) fn references_of(
     alloc: Global,
     payloads: &[Payload<'_>],
 ) -> Result<Vec<u32>, OutOfMemory>
-    ensures { IfOk result (λ functions. Listed (module_references (map payload_of payloads.now)) functions.items) }
+    ensures { IfOk result (λ functions. ListsOnce (module_references (map payload_of payloads.now)) functions.items) }
 {
     let mut functions = Vec::new(alloc);
     push_all(&mut functions, payloads)?;

@@ -6,7 +6,7 @@ ghost use Rattle.segment_tables.specs.declared.segment_rows.SegmentsRecord.{Segm
 ghost use Rattle.segment_tables.specs.Operators.{operator_row};
 ghost use Rattle.segment_tables.specs.Elements.{element_rows};
 ghost use Rattle.segment_tables.specs.DataSegments.{data_rows};
-ghost use Rattle.segment_tables.specs.References.{module_references, Listed};
+ghost use Rattle.segment_tables.specs.References.{module_references, ListsOnce};
 ghost use Rattle.segment_tables.specs.Tables.{TellsSegments, module_expressions};
 
 use wasm_spec::{AbstractHeapType, ExternalKind, HeapType, Operator, UnpackedIndex};
@@ -38,9 +38,9 @@ pub fn worked_references()
         ∷ Elements (record { kind = PassiveElement; items = Functions (1 ∷ []) } ∷ [])
         ∷ Segments (record { kind = Active 0 (Operator.RefFunc 6 ∷ []); bytes = 3 ∷ [] } ∷ []) ∷ [])
         ≡ 4 ∷ 1 ∷ 6 ∷ [] }
-    ensures alone { Listed (3 ∷ []) (3 ∷ []) }
-    ensures missing { ¬ Listed (3 ∷ []) [] }
-    ensures twice { ¬ Listed (3 ∷ []) (3 ∷ 3 ∷ []) }
+    ensures alone { ListsOnce (3 ∷ []) (3 ∷ []) }
+    ensures missing { ¬ ListsOnce (3 ∷ []) [] }
+    ensures twice { ¬ ListsOnce (3 ∷ []) (3 ∷ 3 ∷ []) }
 {}
 
 /// The record of a module without sections, and of one with a data segment.

@@ -56,7 +56,7 @@ pub(crate) fn cell_at(elements: &TableSegmentElements, i: usize) -> FuncIndex
 }
 
 /// The position that an offset expression gives, where its value is a constant of an integer type.
-pub(crate) fn place_of(offset: &ConstExpr) -> Option<u64>
+pub(crate) fn constant_offset(offset: &ConstExpr) -> Option<u64>
     ensures { result ≡ constant_place (expression_of offset.now) }
 {
     match offset.const_eval()? {

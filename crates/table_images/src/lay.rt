@@ -33,7 +33,7 @@ fn fill(image: &mut [FuncIndex], place: usize, elements: &TableSegmentElements)
 }
 
 /// Writes the elements of a segment over an image, which grows with nulls to their end.
-fn lay(
+fn lay_cells(
     image: &mut Vec<FuncIndex>,
     place: usize,
     elements: &TableSegmentElements,
@@ -58,6 +58,6 @@ pub(crate) fn lay_at(
     requires functions { AreFunctions (image_cells (items_of elements.now)) }
     ensures { OnOk result (LaysAt spot.table spot.place (image_cells (items_of elements.now)) (images_of images.old) (images_of images.new)) }
 {
-    lay(&mut images[spot.table], spot.place, elements)?;
+    lay_cells(&mut images[spot.table], spot.place, elements)?;
     Ok(())
 }

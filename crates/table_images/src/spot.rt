@@ -8,7 +8,7 @@ ghost use Rattle.table_images.specs.declared.spot.Spot.{Spot as the_spot};
 ghost use Rattle.table_images.specs.Steps.{IsSpot};
 ghost use Rattle.table_images.specs.Views.{defined_table_of};
 
-use crate::cells::{are_cells, function_of, place_of};
+use crate::cells::{are_cells, constant_offset, function_of};
 use entity_map::EntityRef;
 use wasm_index::FuncIndex;
 use wasm_module::{TableInitialValue, TableSegment};
@@ -65,7 +65,7 @@ pub(crate) fn spot_of(
     {
         return None;
     }
-    let place = place_of(&segment.offset)?;
+    let place = constant_offset(&segment.offset)?;
     let end = place.checked_add(segment.elements.len())?;
     if end > table.limits.min || end > MOST_CELLS {
         return None;

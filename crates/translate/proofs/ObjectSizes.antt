@@ -28,7 +28,7 @@ abbrev whole : ℕ → List ℕ → ℕ
 whole header sizes = next_multiple_of (fold end_by header sizes) (fold max 8 sizes)
 
 module _ {H : Type 0} where
-  abbrev value_bytes : types.Value H → ℕ
+  abbrev value_bytes : types.ValueType H → ℕ
   value_bytes types.I64 = 8
   value_bytes types.F64 = 8
   value_bytes types.V128 = 16

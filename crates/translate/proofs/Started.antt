@@ -12,7 +12,7 @@ use Rattle.replay_spec.specs.Tables.{TablePlan}
 use Rattle.module_types.specs.Builder.{Builder, starts}
 use Rattle.init_plan.specs.Startup.{startup_kind, startup_with, raised, types_after}
 use Rattle.interned_types.specs.Types.{interned_list, type_index}
-use Rattle.module_environ.specs.Translated.{HoldsTypes, startup_index_when, starts_always}
+use Rattle.module_environ.specs.Translated.{HoldsInternedTypes, startup_index_when, starts_always}
 use Rattle.module_environ.specs.Translation.{startup_when}
 use Rattle.translate.specs.Options.{runs}
 
@@ -85,7 +85,7 @@ first : (m : Module) (nothing : Bool) (s : ModuleStartup) (b : Builder) → s �
 first m true s b startup built index sound = record { startup = startup; built = built; index = index; sound = sound }
 first m false s b startup built index sound = record { startup = startup; built = built; index = index; sound = sound }
 
-pub starts_first : (m : Module) (s : ModuleStartup) (b : Builder) → s ≡ startup_when m (starts_always m) → HoldsTypes m b
+pub starts_first : (m : Module) (s : ModuleStartup) (b : Builder) → s ≡ startup_when m (starts_always m) → HoldsInternedTypes m b
     → IsStarted (interned_list m false) (first_startup (lists_of_module m)) s b
 starts_first m s b startup h = first m (leaves_nothing (lists_of_module m)) s b startup h.built h.startup h.sound
 
@@ -94,5 +94,5 @@ few m true n e lt = let l = length-append (interned_list m false).types (startup
 few m false n e lt = omega (arith, e)
 
 -- the startup type still fits
-pub first_room : (m : Module) (b : Builder) → HoldsTypes m b → length (interned_list m false).types + 1 < 4294967295
+pub first_room : (m : Module) (b : Builder) → HoldsInternedTypes m b → length (interned_list m false).types + 1 < 4294967295
 first_room m b h = few m (starts_always m) (length b.built.types) (ap (λ (t : Built). length t.types) h.built) h.room

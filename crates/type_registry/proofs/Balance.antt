@@ -7,7 +7,7 @@ use Rattle.std.proofs.lemmas.Bool.{eqb-true, ne_eqb, cases_Bool, false_from_ne_t
 use Rattle.std.proofs.lemmas.Map.Views.{Contains-from_any, list_any-from_Contains}
 use Rattle.std.proofs.lemmas.Option.{none-some}
 use Rattle.std.proofs.lemmas.List.{take-append-drop}
-use Rattle.type_spec.specs.Interned.{Span}
+use Rattle.type_spec.specs.Interned.{GroupSpan}
 use Rattle.module_types.specs.TypeList.{TypeList}
 use Rattle.type_registry.specs.Registry.{Registry, Group, Groups, Module, empty, index_at, indices_of, live}
 use Rattle.type_registry.specs.Changes.{registered, released_by, size_of}
@@ -106,7 +106,7 @@ module _ (r : Registry) (b : IsBalanced r) where
   kept-listed key m first is lt = there-of (kept_at r first) (omega (arith, b.counted first, below-one r.held key first r.registrations m is (given-key key m is), lt))
 
   -- the first index of a kept group is among those of the module's groups
-  pub first-listed : (key : ℕ) (m : Module) (l : TypeList) (s : Span) → r.held key ≡ Some m → (g : GroupStands r m.indices l s)
+  pub first-listed : (key : ℕ) (m : Module) (l : TypeList) (s : GroupSpan) → r.held key ≡ Some m → (g : GroupStands r m.indices l s)
       → 0 < times (get_or m.indices s.start 0) m.groups
   first-listed key m l s is g =
       let first = get_or m.indices s.start 0 in

@@ -8,7 +8,7 @@ use Rattle.form_types.proofs.AllOf.{All-from_map}
 use Rattle.wasm_spec.specs.TypeData.{map_group, map_sub_type, group_edges}
 use Rattle.type_spec.specs.Names.{named, by_name, index_of as index_in}
 use Rattle.type_spec.specs.TypeShapes.{group_shape}
-use Rattle.type_spec.specs.Interned.{Span}
+use Rattle.type_spec.specs.Interned.{GroupSpan}
 use Rattle.wasm_types.specs.declared.index.EngineOrModuleTypeIndex.{EngineOrModuleTypeIndex}
 use Rattle.wasm_types.specs.TypeViews.{sub_type_of, group_of}
 use Rattle.wasm_trace.specs.Canonical.{CanBeConsedEdge, CanBeRuntimeEdge}
@@ -35,7 +35,7 @@ part-next xs s i x low at =
 -- ---- what references of a listed group may become
 
 module _ (l : TypeList) (listed : Listed l) where
-  pub members-are : (s : Span) → group_of (members_of l s) ≡ map_group (named index_at) index_at (types_in (list_of l).types s)
+  pub members-are : (s : GroupSpan) → group_of (members_of l s) ≡ map_group (named index_at) index_at (types_in (list_of l).types s)
   members-are s =
       let f = map_sub_type (named index_at) index_at in
       let n = s.end - s.start in

@@ -8,13 +8,13 @@ use Rattle.wasm_types.specs.declared.sub.WasmSubType.{WasmSubType}
 use Rattle.type_registry.specs.declared.owners.Owner.{Owner}
 use Rattle.type_registry.specs.Registry.{Group}
 use Rattle.type_registry.specs.Owners.{owner_at, free_count, emptied}
-use Rattle.type_registry.specs.Keeping.{group_in, IsOwned, HasCanonical, AreKept}
+use Rattle.type_registry.specs.Keeping.{group_in, IsOwned, HasCanonical, AreKeptByKeys}
 use Rattle.type_registry.proofs.FirstIndices.{set-other, set-here, set-none, length-removed, length-counted, group-within}
 use Rattle.type_registry.proofs.Keeping.{Eq}
 use Rattle.type_registry.proofs.OwnerLists.{emptied-at, emptied-length, any-place, place-any}
 
 module _ {Key : Type 0} {content : Key → List WasmSubType} {live : ℕ} {known : Key → Option ℕ} {gs : List (Option Group)} {os : List (Option Owner)}
-    {free free' : List ℕ} {g : Group} (live' : ℕ) (known' : Key → Option ℕ) (k : AreKept content live known gs os free) (f : ℕ) (at : group_in gs f ≡ Some g)
+    {free free' : List ℕ} {g : Group} (live' : ℕ) (known' : Key → Option ℕ) (k : AreKeptByKeys content live known gs os free) (f : ℕ) (at : group_in gs f ≡ Some g)
     (equal : (x y : List WasmSubType) → (Eq x y ≡ true) ↔ (x ≡ y))
     (forgets : (q : Key) → known' q ≡ cond (Eq g.canonical (content q)) None (known q))
     (less : live' + length g.indices ≡ live) (frees : free' ≡ map free_count (emptied os g.indices)) where
@@ -51,13 +51,13 @@ module _ {Key : Type 0} {content : Key → List WasmSubType} {live : ℕ} {known
     by true e now = absurd (none-some n now)
     by false e now = let w = k.knows key n now in record { group = w.group; kept = set-other gs f n None (λ same. grind arith) ∙ w.kept; same = w.same }
 
-  pub kept-without : AreKept content live' known' gs' os' free'
+  pub kept-without : AreKeptByKeys content live' known' gs' os' free'
   kept-without = grind (arith, length-set, emptied-length, length-removed, stays, owned, owns, known-still, knows-still)
 
 -- ---- the count of a group changes
 
 module _ {Key : Type 0} {content : Key → List WasmSubType} {live : ℕ} {known : Key → Option ℕ} {gs : List (Option Group)} {os : List (Option Owner)}
-    {free : List ℕ} {g : Group} (k : AreKept content live known gs os free) (f count : ℕ) (at : group_in gs f ≡ Some g) where
+    {free : List ℕ} {g : Group} (k : AreKeptByKeys content live known gs os free) (f count : ℕ) (at : group_in gs f ≡ Some g) where
   abbrev g' : Group
   g' = record g { count = count }
 
@@ -90,7 +90,7 @@ module _ {Key : Type 0} {content : Key → List WasmSubType} {live : ℕ} {known
         record { group = g'; kept = kept; indices = ap (λ (x : Group). x.indices) is; canonical = ap (λ (x : Group). x.canonical) is }
     by false e = record { group = h; kept = set-other gs f n (Some g') (eqb-false n f e) ∙ here; indices = refl; canonical = refl }
 
-  pub kept-counted : AreKept content live known counted os free
+  pub kept-counted : AreKeptByKeys content live known counted os free
   kept-counted = record {
     few = omega (arith, k.few, length-set gs f (Some g'));
     owners = k.owners ∙ sym (length-set gs f (Some g'));

@@ -9,7 +9,7 @@ use Rattle.free_numbers.specs.Counts.{total, before}
 use Rattle.type_registry.specs.declared.owners.Owner.{Owner}
 use Rattle.type_registry.specs.Registry.{Group, Groups, indices_of}
 use Rattle.type_registry.specs.Owners.{owner_at, free_count}
-use Rattle.type_registry.specs.Keeping.{kept_from, group_in, AreKept}
+use Rattle.type_registry.specs.Keeping.{kept_from, group_in, AreKeptByKeys}
 use Rattle.type_registry.specs.FreeIndices.{free_below}
 use Rattle.type_registry.proofs.OwnerLists.{place-any}
 use Rattle.type_registry.proofs.NewGroups.{has-index}
@@ -44,7 +44,7 @@ owner-past : (os : List (Option Owner)) (i : ℕ) → length os ≤ i → owner_
 owner-past os i le = ap (λ (o : Option (Option Owner)). option_and_then (λ (x : Option Owner). x) o) (slice_get_past os i le)
 
 module _ {Key : Type 0} {content : Key → List WasmSubType} {live : ℕ} {known : Key → Option ℕ} {gs : List (Option Group)} {os : List (Option Owner)}
-    {free : List ℕ} (k : AreKept content live known gs os free) where
+    {free : List ℕ} (k : AreKeptByKeys content live known gs os free) where
   abbrev taken : List ℕ
   taken = indices_of (kept_from 0 gs)
 

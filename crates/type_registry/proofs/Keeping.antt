@@ -11,7 +11,7 @@ use Rattle.type_registry.specs.declared.owners.Owner.{Owner}
 use Rattle.type_registry.specs.Registry.{Group, indices_of}
 use Rattle.type_registry.specs.Changes.{keep_group}
 use Rattle.type_registry.specs.Owners.{owner_at, free_count, owned_by}
-use Rattle.type_registry.specs.Keeping.{kept_from, group_in, IsOwned, HasCanonical, AreKept}
+use Rattle.type_registry.specs.Keeping.{kept_from, group_in, IsOwned, HasCanonical, AreKeptByKeys}
 use Rattle.type_registry.proofs.FirstIndices.{set-other, set-here}
 use Rattle.type_registry.proofs.OwnerLists.{any-place, place-any}
 
@@ -84,7 +84,7 @@ pub record IsNew (gs : List (Option Group)) (os : List (Option Owner)) (f : ℕ)
   pub once : (p q n : ℕ) → slice_get g.indices p ≡ Some n → slice_get g.indices q ≡ Some n → p ≡ q
 
 module _ {Key : Type 0} {content : Key → List WasmSubType} {live : ℕ} {known : Key → Option ℕ} {gs : List (Option Group)} {os : List (Option Owner)}
-    {free free' : List ℕ} {f : ℕ} {g : Group} (live' : ℕ) (known' : Key → Option ℕ) (k : AreKept content live known gs os free) (new : IsNew gs os f g)
+    {free free' : List ℕ} {f : ℕ} {g : Group} (live' : ℕ) (known' : Key → Option ℕ) (k : AreKeptByKeys content live known gs os free) (new : IsNew gs os f g)
     (equal : (x y : List WasmSubType) → (Eq x y ≡ true) ↔ (x ≡ y)) (unknown : (key : Key) → content key ≡ g.canonical → known key ≡ None)
     (learns : (q : Key) → known' q ≡ cond (Eq g.canonical (content q)) (Some f) (known q))
     (more : live' ≡ live + length g.indices) (frees : free' ≡ map free_count (owned_by f 0 os g.indices)) where
@@ -131,5 +131,5 @@ module _ {Key : Type 0} {content : Key → List WasmSubType} {live : ℕ} {known
     by true e now = grind (arith, set-here gs f (Some g) new.room)
     by false e now = let w = k.knows key n now in record { group = w.group; kept = still n w.group w.kept; same = w.same }
 
-  pub kept-with : AreKept content live' known' gs' os' free'
+  pub kept-with : AreKeptByKeys content live' known' gs' os' free'
   kept-with = grind (arith, length-set, owned-length, length-kept, first', owned', owns', found', knows')

@@ -9,7 +9,7 @@ use Rattle.type_registry.specs.declared.owners.Owner.{Owner}
 use Rattle.type_registry.specs.Registry.{Group, GroupsState, indices_of}
 use Rattle.type_registry.specs.Changes.{find_group}
 use Rattle.type_registry.specs.Owners.{owner_at}
-use Rattle.type_registry.specs.Keeping.{kept_from, group_in, AreKept}
+use Rattle.type_registry.specs.Keeping.{kept_from, group_in, AreKeptByKeys}
 use Rattle.type_registry.specs.Fresh.{MayBeKept}
 use Rattle.type_registry.proofs.OwnerLists.{any-place}
 use Rattle.type_registry.proofs.Keeping.{Eq, IsNew}
@@ -52,7 +52,7 @@ find-none (Some x ∷ gs) k c none =
     grind (arith, cases_Bool (Eq x.canonical c), none 0 x refl, (find-none gs (k + 1) c (λ n h here is. none (suc n) h here is)))
 
 module _ {Key : Type 0} {content : Key → List WasmSubType} {live : ℕ} {known : Key → Option ℕ} {gs : List (Option Group)} {os : List (Option Owner)}
-    {free : List ℕ} (k : AreKept content live known gs os free) (equal : (x y : List WasmSubType) → (Eq x y ≡ true) ↔ (x ≡ y)) where
+    {free : List ℕ} (k : AreKeptByKeys content live known gs os free) (equal : (x y : List WasmSubType) → (Eq x y ≡ true) ↔ (x ≡ y)) where
   pub found-known : (key : Key) (n : ℕ) → known key ≡ Some n → find_group (content key) (kept_from 0 gs) ≡ group_in gs n
   found-known key n is = let w = k.knows key n is in grind (arith, find-some gs 0 n w.group (content key) w.kept, k.found)
 

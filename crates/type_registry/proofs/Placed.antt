@@ -7,7 +7,7 @@ use Rattle.std.proofs.Math.ListN.{drop_of_length-le}
 use Rattle.std.proofs.lemmas.Bool.Decides.{nat_tests}
 use Rattle.wasm_spec.specs.TypeData.{map_group}
 use Rattle.type_spec.specs.Names.{named}
-use Rattle.type_spec.specs.Interned.{Span}
+use Rattle.type_spec.specs.Interned.{GroupSpan}
 use Rattle.wasm_types.specs.declared.index.EngineOrModuleTypeIndex.{EngineOrModuleTypeIndex}
 use Rattle.wasm_types.specs.declared.sub.WasmSubType.{WasmSubType}
 use Rattle.wasm_types.specs.TypeViews.{group_of}
@@ -30,7 +30,7 @@ edge-more : (xs ys : List ℕ) (start : ℕ) → start ≤ length xs → (e : En
 edge-more xs ys start h1 e = grind (arith, get_or_append_left, nat_tests)
 
 -- indices of later types do not matter
-data-more : (l : TypeList) (s : Span) (xs ys : List ℕ) → s.start ≤ length xs → canonical_data l xs s ≡ canonical_data l (xs ++ ys) s
+data-more : (l : TypeList) (s : GroupSpan) (xs ys : List ℕ) → s.start ≤ length xs → canonical_data l xs s ≡ canonical_data l (xs ++ ys) s
 data-more l s xs ys at =
     let same : consed_edge (given xs) s.start ≡ consed_edge (given (xs ++ ys)) s.start = (λ i. λ e. edge-more xs ys s.start at e i) in
     ap (λ (f : EngineOrModuleTypeIndex → EngineOrModuleTypeIndex). map_group (named f) f (group_of (members_of l s))) same
@@ -70,7 +70,7 @@ first-both (x ∷ xs) ys a b = (a.0, a.1, first-both xs ys a.2 b)
 -- ---- each group of a plan
 
 -- it has the indices of its members, and these members; and it is found among kept and new groups
-pub record IsPlanned (gs : Groups) (l : TypeList) (p : Plan) (s : Span) : Type 0 where
+pub record IsPlanned (gs : Groups) (l : TypeList) (p : Plan) (s : GroupSpan) : Type 0 where
   pub group : Group
   pub at : group.indices ≡ take (size_of s) (drop s.start p.listed.indices)
   pub canonical : group_of group.canonical ≡ canonical_data l p.listed.indices s
@@ -79,14 +79,14 @@ pub record IsPlanned (gs : Groups) (l : TypeList) (p : Plan) (s : Span) : Type 0
   pub among : find_group group.canonical (gs ++ p.fresh) ≡ Some group
 
 -- it remains so where more groups follow
-planned-more : (gs : Groups) (l : TypeList) (listed : Module) (es fs : Groups) (ns firsts : List ℕ) (s : Span)
+planned-more : (gs : Groups) (l : TypeList) (listed : Module) (es fs : Groups) (ns firsts : List ℕ) (s : GroupSpan)
     → IsPlanned gs l (plan listed es) s → IsPlanned gs l (plan (record { indices = listed.indices ++ ns; groups = firsts }) (es ++ fs)) s
 planned-more gs l listed es fs ns firsts s w =
     grind (arith, part-within, data-more l s listed.indices ns (omega (arith, w.low, w.within)), length-append, append_assoc, find-some)
 
 module _ (equal : (x y : List WasmSubType) → (Eq x y ≡ true) ↔ (x ≡ y)) (gs : Groups) (l : TypeList) where
   -- the group that is planned
-  module _ (p : Plan) (s : Span) (may : MayBePlanned l s) (at : length p.listed.indices ≡ s.start) (first : AllFirst (gs ++ p.fresh)) where
+  module _ (p : Plan) (s : GroupSpan) (may : MayBePlanned l s) (at : length p.listed.indices ≡ s.start) (first : AllFirst (gs ++ p.fresh)) where
     abbrev c : List WasmSubType
     c = canonical_of l p.listed.indices s
 
@@ -128,24 +128,24 @@ module _ (equal : (x y : List WasmSubType) → (Eq x y ≡ true) ↔ (x ≡ y)) 
       pub here : IsPlanned gs l q s
       pub firsts : AllFirst (gs ++ q.fresh)
       pub long : length q.listed.indices ≡ s.end
-      pub still : (t : Span) → IsPlanned gs l p t → IsPlanned gs l q t
+      pub still : (t : GroupSpan) → IsPlanned gs l p t → IsPlanned gs l q t
 
     pub is-next : IsNext (plan_group gs l p s)
     is-next = grind (arith, append-nil p.fresh, planned-more, unknown, append_assoc, first-both, length-append, new-long, new-first, either-planned, known, known-long)
 
   -- each group of some
-  abbrev pub EachPlanned : Plan → List Span → Type 0
+  abbrev pub EachPlanned : Plan → List GroupSpan → Type 0
   EachPlanned p [] = ⊤
   EachPlanned p (s ∷ ss) = IsPlanned gs l p s × EachPlanned p ss
 
   -- all groups of a plan, once the remaining ones are planned
-  pub record ArePlanned (p : Plan) (ss : List Span) (end : ℕ) : Type 0 where
+  pub record ArePlanned (p : Plan) (ss : List GroupSpan) (end : ℕ) : Type 0 where
     pub each : EachPlanned (plan_groups gs l p ss) ss
     pub first : AllFirst (gs ++ (plan_groups gs l p ss).fresh)
     pub long : length (plan_groups gs l p ss).listed.indices ≡ end
-    pub still : (t : Span) → IsPlanned gs l p t → IsPlanned gs l (plan_groups gs l p ss) t
+    pub still : (t : GroupSpan) → IsPlanned gs l p t → IsPlanned gs l (plan_groups gs l p ss) t
 
-  pub are-planned : (p : Plan) (ss : List Span) (end : ℕ) → MayBePlannedFrom l (length p.listed.indices) ss → LieBetween (length p.listed.indices) ss end
+  pub are-planned : (p : Plan) (ss : List GroupSpan) (end : ℕ) → MayBePlannedFrom l (length p.listed.indices) ss → LieBetween (length p.listed.indices) ss end
       → AllFirst (gs ++ p.fresh) → ArePlanned p ss end
   are-planned p [] end may lie first = record { each = tt; first = first; long = lie; still = λ t x. x }
   are-planned p (s ∷ ss) end may lie first =
@@ -153,7 +153,7 @@ module _ (equal : (x y : List WasmSubType) → (Eq x y ≡ true) ↔ (x ≡ y)) 
       let rest = are-planned (plan_group gs l p s) ss end (rw n.long may.2) (rw n.long lie.2) n.firsts in
       grind arith
 
-  pub planned-at : (p : Plan) (ss : List Span) (k : ℕ) (s : Span) → EachPlanned p ss → slice_get ss k ≡ Some s → IsPlanned gs l p s
+  pub planned-at : (p : Plan) (ss : List GroupSpan) (k : ℕ) (s : GroupSpan) → EachPlanned p ss → slice_get ss k ≡ Some s → IsPlanned gs l p s
   planned-at p [] k s each at = absurd (none-some s at)
   planned-at p (t ∷ ss) zero s each at = subst (λ x. IsPlanned gs l p x) (same_Some t s at) each.0
   planned-at p (t ∷ ss) (suc k) s each at = planned-at p ss k s each.1 at

@@ -4,7 +4,7 @@ use Rattle.std.proofs.lemmas.List.{length-append, length-map, length-take-le, le
 use Rattle.std.proofs.lemmas.Grind.{common_steps, flat_map-append}
 use Rattle.wasm_spec.specs.TypeData.{map_group}
 use Rattle.type_spec.specs.Names.{named}
-use Rattle.type_spec.specs.Interned.{Span}
+use Rattle.type_spec.specs.Interned.{GroupSpan}
 use Rattle.std.specs.declared.ops.Range.{Range}
 use Rattle.std.proofs.lemmas.Option.{none-some}
 use Rattle.std.proofs.lemmas.Bool.{cases_Bool}
@@ -34,7 +34,7 @@ use Rattle.type_registry.proofs.NewGroups.{none-of}
 
 -- ---- the groups of a list may be planned
 
-planned-from : (l : TypeList) (ss : List Span) (first end : ℕ) → LieBetween first ss end → ((k : ℕ) → k < length ss → MayBePlanned l (get_or ss k no_span))
+planned-from : (l : TypeList) (ss : List GroupSpan) (first end : ℕ) → LieBetween first ss end → ((k : ℕ) → k < length ss → MayBePlanned l (get_or ss k no_span))
     → MayBePlannedFrom l first ss
 planned-from l [] first end lie each = tt
 planned-from l (s ∷ ss) first end lie each = (lie.0, each 0 (omega arith), planned-from l ss s.end end lie.2 (λ k lt. each (suc k) (omega (arith, lt))))
@@ -46,7 +46,7 @@ may-plan l listed few = planned-from l (map span_of l.groups) 0 (length (list_of
 -- ---- groups that are found
 
 -- a group that is planned is found, or is new
-pub either-planned : (gs : Groups) (l : TypeList) (p : Plan) (s : Span) (P : Plan → Type 0)
+pub either-planned : (gs : Groups) (l : TypeList) (p : Plan) (s : GroupSpan) (P : Plan → Type 0)
     → ((g : Group) → find_group (canonical_of l p.listed.indices s) (gs ++ p.fresh) ≡ Some g → P (plan (with_group p.listed g) p.fresh))
     → (find_group (canonical_of l p.listed.indices s) (gs ++ p.fresh) ≡ None → P (take_group p (next_group gs p.fresh (canonical_of l p.listed.indices s) (size_of s)) None))
     → P (plan_group gs l p s)
@@ -112,7 +112,7 @@ unknown-last : (gs es : Groups) (e : ℕ × Group) → find_group e.1.canonical 
 unknown-last gs [] e none all = (none, tt)
 unknown-last gs (x ∷ es) e none all = (all.0, unknown-last gs es e none all.1)
 
-pub group-first : (gs : Groups) (l : TypeList) (p : Plan) (s : Span) → HaveFirstFree (indices_of gs) p.fresh
+pub group-first : (gs : Groups) (l : TypeList) (p : Plan) (s : GroupSpan) → HaveFirstFree (indices_of gs) p.fresh
     → HaveFirstFree (indices_of gs) (plan_group gs l p s).fresh
 group-first gs l p s first = grind (arith, either-planned, first-more)
 
@@ -125,10 +125,10 @@ pub record AreNew (gs es : Groups) : Type 0 where
 none-new : (gs : Groups) → AreNew gs []
 none-new gs = record { first = refl; unknown = tt; apart = tt }
 
-new-group : (gs : Groups) (l : TypeList) (p : Plan) (s : Span) → AreNew gs p.fresh → AreNew gs (plan_group gs l p s).fresh
+new-group : (gs : Groups) (l : TypeList) (p : Plan) (s : GroupSpan) → AreNew gs p.fresh → AreNew gs (plan_group gs l p s).fresh
 new-group gs l p s new = grind (arith, either-planned, first-more, unknown-last, none-first, apart-last, none-second)
 
-new-groups : (gs : Groups) (l : TypeList) (p : Plan) (ss : List Span) → AreNew gs p.fresh → AreNew gs (plan_groups gs l p ss).fresh
+new-groups : (gs : Groups) (l : TypeList) (p : Plan) (ss : List GroupSpan) → AreNew gs p.fresh → AreNew gs (plan_groups gs l p ss).fresh
 new-groups gs l p [] new = new
 new-groups gs l p (s ∷ ss) new = new-groups gs l (plan_group gs l p s) ss (new-group gs l p s new)
 
@@ -145,20 +145,20 @@ new-may-keep s es new few spare room = grind (arith, nat_eq, free-low, not-taken
 abbrev members : Plan → ℕ
 members p = length (indices_of p.fresh)
 
-group-grows : (gs : Groups) (l : TypeList) (p : Plan) (s : Span) → members p ≤ members (plan_group gs l p s)
+group-grows : (gs : Groups) (l : TypeList) (p : Plan) (s : GroupSpan) → members p ≤ members (plan_group gs l p s)
 group-grows gs l p s = grind (arith, either-planned, next-length)
 
-pub groups-grow : (gs : Groups) (l : TypeList) (p : Plan) (ss : List Span) → members p ≤ members (plan_groups gs l p ss)
+pub groups-grow : (gs : Groups) (l : TypeList) (p : Plan) (ss : List GroupSpan) → members p ≤ members (plan_groups gs l p ss)
 groups-grow gs l p [] = omega arith
 groups-grow gs l p (s ∷ ss) = omega (arith, group-grows gs l p s, groups-grow gs l (plan_group gs l p s) ss)
 
 -- ---- one group
 
-pub mapped-long : (l : TypeList) (s : Span) (f : EngineOrModuleTypeIndex → EngineOrModuleTypeIndex) (c : List WasmSubType) → s.end ≤ length l.types
+pub mapped-long : (l : TypeList) (s : GroupSpan) (f : EngineOrModuleTypeIndex → EngineOrModuleTypeIndex) (c : List WasmSubType) → s.end ≤ length l.types
     → group_of c ≡ map_group (named f) f (group_of (members_of l s)) → length c ≡ s.end - s.start
 mapped-long l s f c within is = grind (arith, length-map, length-take-le, length-drop)
 
-module _ (gs : Groups) (l : TypeList) (p : Plan) (s : Span) (c : List WasmSubType) (is : c ≡ canonical_of l p.listed.indices s) where
+module _ (gs : Groups) (l : TypeList) (p : Plan) (s : GroupSpan) (c : List WasmSubType) (is : c ≡ canonical_of l p.listed.indices s) where
   abbrev next : List WasmSubType → Group
   next x = next_group gs p.fresh x (size_of s)
 
@@ -174,7 +174,7 @@ module _ (gs : Groups) (l : TypeList) (p : Plan) (s : Span) (c : List WasmSubTyp
 abbrev pub Numbered : Type 0
 Numbered = Index ModuleInternedRecGroupSpace × Range TypeIndex
 
-abbrev pub spans_left : List Numbered → List Span
+abbrev pub spans_left : List Numbered → List GroupSpan
 spans_left es = map (λ (e : Numbered). span_of e.1) es
 
 spans-from : (n : ℕ) (rs : List (Range TypeIndex)) → spans_left (keyed_from index_of n rs) ≡ map span_of rs
@@ -186,15 +186,15 @@ spans-keyed rs = spans-from 0 rs
 
 -- ---- how many groups there are, and how often modules have the new ones
 
-count-group : (gs : Groups) (l : TypeList) (p : Plan) (s : Span) → length (plan_group gs l p s).listed.groups ≡ length p.listed.groups + 1
+count-group : (gs : Groups) (l : TypeList) (p : Plan) (s : GroupSpan) → length (plan_group gs l p s).listed.groups ≡ length p.listed.groups + 1
 count-group gs l p s = grind (arith, either-planned, length-append)
 
-count-groups : (gs : Groups) (l : TypeList) (p : Plan) (ss : List Span) → length (plan_groups gs l p ss).listed.groups ≡ length p.listed.groups + length ss
+count-groups : (gs : Groups) (l : TypeList) (p : Plan) (ss : List GroupSpan) → length (plan_groups gs l p ss).listed.groups ≡ length p.listed.groups + length ss
 count-groups gs l p [] = omega arith
 count-groups gs l p (s ∷ ss) = omega (arith, count-group gs l p s, count-groups gs l (plan_group gs l p s) ss)
 
 -- as each group has members, there are no more groups than types
-few-spans : (ss : List Span) (first end : ℕ) → LieBetween first ss end → first + length ss ≤ end
+few-spans : (ss : List GroupSpan) (first end : ℕ) → LieBetween first ss end → first + length ss ≤ end
 few-spans [] first end lie = omega (arith, lie)
 few-spans (s ∷ ss) first end lie = omega (arith, few-spans ss s.end end lie.2, lie.0, lie.1)
 
@@ -206,10 +206,10 @@ counted-last : (es : Groups) (e : ℕ × Group) → counted (es ++ e ∷ []) ≡
 counted-last [] e = omega arith
 counted-last (x ∷ es) e = omega (arith, counted-last es e)
 
-none-counted : (gs : Groups) (l : TypeList) (p : Plan) (s : Span) → counted p.fresh ≡ 0 → counted (plan_group gs l p s).fresh ≡ 0
+none-counted : (gs : Groups) (l : TypeList) (p : Plan) (s : GroupSpan) → counted p.fresh ≡ 0 → counted (plan_group gs l p s).fresh ≡ 0
 none-counted gs l p s none = grind (arith, either-planned, counted-last)
 
-pub fresh-counted : (gs : Groups) (l : TypeList) (p : Plan) (ss : List Span) → counted p.fresh ≡ 0 → counted (plan_groups gs l p ss).fresh ≡ 0
+pub fresh-counted : (gs : Groups) (l : TypeList) (p : Plan) (ss : List GroupSpan) → counted p.fresh ≡ 0 → counted (plan_groups gs l p ss).fresh ≡ 0
 fresh-counted gs l p [] none = none
 fresh-counted gs l p (s ∷ ss) none = fresh-counted gs l (plan_group gs l p s) ss (none-counted gs l p s none)
 

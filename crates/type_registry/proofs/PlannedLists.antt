@@ -5,7 +5,7 @@ use Rattle.std.proofs.lemmas.Grind.{flat_map-append, common_steps}
 use Rattle.std.proofs.lemmas.List.{append-nil, append_assoc}
 use Rattle.std.proofs.lemmas.Option.{get_or_from_slice_get, same_Some}
 use Rattle.std.proofs.lemmas.Bool.{eqb-true, ne_eqb}
-use Rattle.type_spec.specs.Interned.{Span}
+use Rattle.type_spec.specs.Interned.{GroupSpan}
 use Rattle.wasm_types.specs.declared.sub.WasmSubType.{WasmSubType}
 use Rattle.module_types.specs.Views.{span_of}
 use Rattle.module_types.specs.TypeList.{TypeList}
@@ -36,11 +36,11 @@ listed-more at m g is w = grind (arith, append-nil, flat_map-append, nat_eq, tim
 
 module _ (equal : (x y : List WasmSubType) → (Eq x y ≡ true) ↔ (x ≡ y)) (gs : Groups) (l : TypeList) where
   -- a group that is found remains so where more groups are planned
-  found-next : (p : Plan) (s : Span) (c : List WasmSubType) (g : Group) → find_group c (gs ++ p.fresh) ≡ Some g
+  found-next : (p : Plan) (s : GroupSpan) (c : List WasmSubType) (g : Group) → find_group c (gs ++ p.fresh) ≡ Some g
       → find_group c (gs ++ (plan_group gs l p s).fresh) ≡ Some g
   found-next p s c g is = grind (arith, either-planned, append_assoc, find-some)
 
-  found-later : (p : Plan) (ss : List Span) (c : List WasmSubType) (g : Group) → find_group c (gs ++ p.fresh) ≡ Some g
+  found-later : (p : Plan) (ss : List GroupSpan) (c : List WasmSubType) (g : Group) → find_group c (gs ++ p.fresh) ≡ Some g
       → find_group c (gs ++ (plan_groups gs l p ss).fresh) ≡ Some g
   found-later p [] c g is = is
   found-later p (s ∷ ss) c g is = found-later (plan_group gs l p s) ss c g (found-next p s c g is)
@@ -51,7 +51,7 @@ module _ (equal : (x y : List WasmSubType) → (Eq x y ≡ true) ↔ (x ≡ y)) 
     pub listed : n ≡ with_group m group
     pub among : find_group group.canonical (gs ++ es) ≡ Some group
 
-  is-taken : (p : Plan) (s : Span) → IsTaken p.listed (plan_group gs l p s).listed (plan_group gs l p s).fresh
+  is-taken : (p : Plan) (s : GroupSpan) → IsTaken p.listed (plan_group gs l p s).listed (plan_group gs l p s).fresh
   is-taken p s =
       let c = canonical_of l p.listed.indices s in
       either-planned gs l p s (λ q. IsTaken p.listed q.listed q.fresh)
@@ -59,7 +59,7 @@ module _ (equal : (x y : List WasmSubType) → (Eq x y ≡ true) ↔ (x ≡ y)) 
       (λ none. record { group = next_group gs p.fresh c (size_of s); listed = refl; among = grind (arith, append_assoc, find-none) })
 
   -- the list is that of its groups where each group that is found is kept at its first index
-  planned-listed : (at : ℕ → Option Group) (p : Plan) (ss : List Span)
+  planned-listed : (at : ℕ → Option Group) (p : Plan) (ss : List GroupSpan)
       → ((g : Group) → find_group g.canonical (gs ++ (plan_groups gs l p ss).fresh) ≡ Some g → at (first_index g) ≡ Some g)
       → IsListedBy at p.listed → IsListedBy at (plan_groups gs l p ss).listed
   planned-listed at p [] kept w = w
@@ -70,11 +70,11 @@ module _ (equal : (x y : List WasmSubType) → (Eq x y ≡ true) ↔ (x ≡ y)) 
       planned-listed at q ss kept (rw t.listed (listed-more at p.listed t.group is w))
 
   -- each new group is one of the module's
-  new-listed : (p : Plan) (s : Span) (first : ℕ) → times first (firsts_of p.fresh) ≤ times first p.listed.groups
+  new-listed : (p : Plan) (s : GroupSpan) (first : ℕ) → times first (firsts_of p.fresh) ≤ times first p.listed.groups
       → times first (firsts_of (plan_group gs l p s).fresh) ≤ times first (plan_group gs l p s).listed.groups
   new-listed p s first le = grind (arith, common_steps, times-append, either-planned)
 
-  pub all-listed : (p : Plan) (ss : List Span) (first : ℕ) → times first (firsts_of p.fresh) ≤ times first p.listed.groups
+  pub all-listed : (p : Plan) (ss : List GroupSpan) (first : ℕ) → times first (firsts_of p.fresh) ≤ times first p.listed.groups
       → times first (firsts_of (plan_groups gs l p ss).fresh) ≤ times first (plan_groups gs l p ss).listed.groups
   all-listed p [] first le = le
   all-listed p (s ∷ ss) first le = all-listed (plan_group gs l p s) ss first (new-listed p s first le)

@@ -3,7 +3,7 @@ use Rattle.std.proofs.Common.{if◌then◌else◌, ◌≡◌, ◌∙◌, ◌↔�
 use Rattle.std.proofs.lemmas.Option.{slice_get-get_or, none-some}
 use Rattle.std.proofs.lemmas.List.{length-map, append-nil}
 use Rattle.std.proofs.lemmas.Bool.{ne_eqb}
-use Rattle.type_spec.specs.Interned.{Span}
+use Rattle.type_spec.specs.Interned.{GroupSpan}
 use Rattle.wasm_types.specs.declared.sub.WasmSubType.{WasmSubType}
 use Rattle.module_types.specs.Views.{span_of}
 use Rattle.module_types.specs.TypeList.{TypeList}
@@ -11,7 +11,7 @@ use Rattle.type_registry.specs.Registry.{Registry, Group, Groups, GroupsState, i
 use Rattle.module_types.specs.Listed.{list_of}
 use Rattle.type_registry.specs.Changes.{Plan, begun, find_group, planned, registered, size_of, keep_groups}
 use Rattle.type_registry.specs.Fresh.{MayKeepAll}
-use Rattle.type_registry.specs.Standing.{AreAbove, AreOrdered, IsSound, GroupStands, Stands, MayRegister}
+use Rattle.type_registry.specs.Standing.{AreAbove, AreOrdered, GroupsAreSound, GroupStands, Stands, MayRegister}
 use Rattle.type_registry.proofs.Keeping.{Eq}
 use Rattle.type_registry.proofs.KeepingAll.{may-keep-all}
 use Rattle.type_registry.proofs.PlanGroups.{planned-new, new-may-keep, may-plan, find-some, find-none}
@@ -38,7 +38,7 @@ all-first : (gs : Groups) → ((p f : ℕ) (g : Group) → slice_get gs p ≡ So
 all-first [] each = tt
 all-first (x ∷ gs) each = let here = each 0 x.0 x.1 refl in (here.0, here.1, all-first gs (λ p f g at. each (suc p) f g at))
 
-sound-first : (gs : Groups) → IsSound gs → AllFirst gs
+sound-first : (gs : Groups) → GroupsAreSound gs → AllFirst gs
 sound-first gs sound = grind (arith, all-first, entry-found)
 
 first-second : (xs ys : Groups) → AllFirst (xs ++ ys) → AllFirst ys
@@ -60,7 +60,7 @@ module _ (equal : (x y : List WasmSubType) → (Eq x y ≡ true) ↔ (x ≡ y)) 
   pub may : MayKeepAll state p.fresh
   may = may-keep-all p.fresh state (new-may-keep state p.fresh (planned-new gs l) (omega (arith, m.fits, m.most)) (omega arith) (omega arith))
 
-  abbrev ss : List Span
+  abbrev ss : List GroupSpan
   ss = map span_of l.groups
 
   all : ArePlanned equal gs l begun ss (length (list_of l).types)
@@ -70,7 +70,7 @@ module _ (equal : (x y : List WasmSubType) → (Eq x y ≡ true) ↔ (x ≡ y)) 
   pub new-first : AllFirst p.fresh
   new-first = first-second gs p.fresh all.first
 
-  pub registered-sound : IsSound (registered r l).groups
+  pub registered-sound : GroupsAreSound (registered r l).groups
   registered-sound = counted-sound (keep_groups gs p.fresh) p.listed.groups (keeps-sound equal p.fresh state m.sound may new-first)
 
   -- a group that is kept at its first index
@@ -90,7 +90,7 @@ module _ (equal : (x y : List WasmSubType) → (Eq x y ≡ true) ↔ (x ≡ y)) 
         let w = find-at p.fresh g.canonical g (sym (find-none gs p.fresh g.canonical e) ∙ among) in
         grind (arith, first-at p.fresh w.place w.first g new-first w.at, keeps-new equal p.fresh state w.place (w.first, g) m.sound may new-first w.at)
 
-  stands-group : (k : ℕ) (s : Span) → slice_get ss k ≡ Some s → GroupStands (registered r l) p.listed.indices l s
+  stands-group : (k : ℕ) (s : GroupSpan) → slice_get ss k ≡ Some s → GroupStands (registered r l) p.listed.indices l s
   stands-group k s at =
       let w = planned-at equal gs l p ss k s all.each at in
       let x = kept-of w.group w.among in

@@ -8,7 +8,7 @@ use Rattle.free_numbers.specs.Counts.{IsCounts}
 use Rattle.type_registry.specs.declared.owners.Owner.{Owner}
 use Rattle.type_registry.specs.Registry.{Group, indices_of}
 use Rattle.type_registry.specs.Owners.{free_count}
-use Rattle.type_registry.specs.Keeping.{kept_from, AreKept}
+use Rattle.type_registry.specs.Keeping.{kept_from, AreKeptByKeys}
 
 abbrev nothing : {A : Type 0} → Option A
 nothing = None
@@ -52,13 +52,13 @@ are-counts (None ∷ os) n = (omega arith, are-counts os n)
 are-counts (Some o ∷ os) n = (omega arith, are-counts os n)
 
 module _ {Key : Type 0} {content : Key → List WasmSubType} {live : ℕ} {known : Key → Option ℕ} {gs : List (Option Group)} {os : List (Option Owner)}
-    {free : List ℕ} (k : AreKept content live known gs os free) where
+    {free : List ℕ} (k : AreKeptByKeys content live known gs os free) where
   -- the map may be another that has the same entries
-  pub kept-known : (known' : Key → Option ℕ) → ((key : Key) → known' key ≡ known key) → AreKept content live known' gs os free
+  pub kept-known : (known' : Key → Option ℕ) → ((key : Key) → known' key ≡ known key) → AreKeptByKeys content live known' gs os free
   kept-known known' same = grind (arith, common_steps)
 
   pub kept-roomier : (n : ℕ) → length gs + n < 4294967296
-      → AreKept content live known (gs ++ replicate n None) (os ++ replicate n None) (map free_count os ++ replicate n 1)
+      → AreKeptByKeys content live known (gs ++ replicate n None) (os ++ replicate n None) (map free_count os ++ replicate n 1)
   kept-roomier n few = record {
     few = grind (arith, length-append, length-replicate);
     owners = grind (arith, length-append, length-replicate);

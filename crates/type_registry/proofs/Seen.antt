@@ -17,7 +17,7 @@ all-seen : {A B : Type 0} (view : A → B) → ((y : B) → Seen view y) → (ys
 all-seen view each [] = record { from = []; is = refl }
 all-seen view each (y ∷ ys) = let rest = all-seen view each ys in record { from = (each y).from ∷ rest.from; is = λ i. (each y).is i ∷ rest.is i }
 
-seen-value : (v : types.Value Name) → Seen value_of v
+seen-value : (v : types.ValueType Name) → Seen value_of v
 seen-value types.I32 = record { from = val.I32; is = refl }
 seen-value types.I64 = record { from = val.I64; is = refl }
 seen-value types.F32 = record { from = val.F32; is = refl }

@@ -10,7 +10,7 @@ use Rattle.std.proofs.lemmas.Option.{none-some, same_Some}
 use Rattle.wasm_types.specs.declared.sub.WasmSubType.{WasmSubType}
 use Rattle.type_registry.specs.Registry.{Group, Groups, GroupsState, indices_of}
 use Rattle.type_registry.specs.Changes.{find_group, keep_group, keep_groups, count_group, count_groups, leave_group, leave_groups}
-use Rattle.type_registry.specs.Standing.{AreAbove, AreOrdered, IsSound}
+use Rattle.type_registry.specs.Standing.{AreAbove, AreOrdered, GroupsAreSound}
 use Rattle.type_registry.specs.Fresh.{MayBeKept, MayKeepAll}
 use Rattle.type_registry.proofs.OwnerLists.{any-place}
 use Rattle.type_registry.proofs.Keeping.{Eq}
@@ -62,7 +62,7 @@ data Where (gs : Groups) (f i : ℕ) (g h : Group) : Type 0 where
 where-of : (gs : Groups) (f i : ℕ) (g h : Group) → found (keep_group gs f g) i ≡ Some h → Where gs f i g h
 where-of gs f i g h is = grind (arith, nat_eq, found-keep, eqb-true, same_Some)
 
-module _ (equal : (x y : List WasmSubType) → (Eq x y ≡ true) ↔ (x ≡ y)) (s : GroupsState) (f : ℕ) (g : Group) (sound : IsSound s.groups) (may : MayBeKept s g)
+module _ (equal : (x y : List WasmSubType) → (Eq x y ≡ true) ↔ (x ≡ y)) (s : GroupsState) (f : ℕ) (g : Group) (sound : GroupsAreSound s.groups) (may : MayBeKept s g)
     (first : slice_get g.indices 0 ≡ Some f) (long : length g.indices ≡ length g.canonical) where
   abbrev kept : Groups
   kept = s.groups
@@ -77,7 +77,7 @@ module _ (equal : (x y : List WasmSubType) → (Eq x y ≡ true) ↔ (x ≡ y)) 
   unlike : (i : ℕ) (h : Group) → found kept i ≡ Some h → h.canonical ≡ g.canonical → ⊥
   unlike i h is same = found-unlike kept i h g.canonical is may.unknown ((equal h.canonical g.canonical).1 same)
 
-  pub keep-sound : IsSound (keep_group kept f g)
+  pub keep-sound : GroupsAreSound (keep_group kept f g)
   keep-sound = grind (arith, keep-ordered, none-found, where-of, unlike, slice_get, elsewhere)
 
 -- ---- more groups
@@ -94,19 +94,19 @@ AllFirst [] = ⊤
 AllFirst (e ∷ es) = (slice_get e.1.indices 0 ≡ Some e.0) × (length e.1.indices ≡ length e.1.canonical) × AllFirst es
 
 module _ (equal : (x y : List WasmSubType) → (Eq x y ≡ true) ↔ (x ≡ y)) where
-  pub keeps-sound : (es : Groups) (s : GroupsState) → IsSound s.groups → MayKeepAll s es → AllFirst es → IsSound (keep_groups s.groups es)
+  pub keeps-sound : (es : Groups) (s : GroupsState) → GroupsAreSound s.groups → MayKeepAll s es → AllFirst es → GroupsAreSound (keep_groups s.groups es)
   keeps-sound [] s sound may first = sound
   keeps-sound (e ∷ es) s sound may first = grind (arith, (keeps-sound es (with_one s e) (keep-sound equal s e.0 e.1 sound may.0 first.0 first.1) (may-rest s e es may) first.2))
 
   -- a group that is kept remains so
-  pub keeps-found : (es : Groups) (s : GroupsState) (i : ℕ) (h : Group) → IsSound s.groups → MayKeepAll s es → AllFirst es → found s.groups i ≡ Some h
+  pub keeps-found : (es : Groups) (s : GroupsState) (i : ℕ) (h : Group) → GroupsAreSound s.groups → MayKeepAll s es → AllFirst es → found s.groups i ≡ Some h
       → found (keep_groups s.groups es) i ≡ Some h
   keeps-found [] s i h sound may first is = is
   keeps-found (e ∷ es) s i h sound may first is = keeps-found es (with_one s e) i h (keep-sound equal s e.0 e.1 sound may.0 first.0 first.1) (may-rest s e es may) first.2
       (grind (arith, nat_tests, none-found equal s e.0 e.1 sound may.0 first.0 first.1, found-keep s.groups e.0 i e.1))
 
   -- each of the new groups is kept
-  pub keeps-new : (es : Groups) (s : GroupsState) (p : ℕ) (e : Kept) → IsSound s.groups → MayKeepAll s es → AllFirst es → slice_get es p ≡ Some e
+  pub keeps-new : (es : Groups) (s : GroupsState) (p : ℕ) (e : Kept) → GroupsAreSound s.groups → MayKeepAll s es → AllFirst es → slice_get es p ≡ Some e
       → found (keep_groups s.groups es) e.0 ≡ Some e.1
   keeps-new [] s p e sound may first at = absurd (none-some e at)
   keeps-new (x ∷ es) s zero e sound may first at = grind (
@@ -166,7 +166,7 @@ counts-ordered gs [] all = all
 counts-ordered gs (f ∷ fs) all = counts-ordered (count_group gs f (found gs f)) fs (count-ordered f gs (found gs f) all)
 
 -- what is kept in order, and was kept except for its count, is told apart as it was
-sound-but : (gs now : Groups) → AreOrdered now → ((i : ℕ) (h : Group) → found now i ≡ Some h → IsBut gs i h) → IsSound gs → IsSound now
+sound-but : (gs now : Groups) → AreOrdered now → ((i : ℕ) (h : Group) → found now i ≡ Some h → IsBut gs i h) → GroupsAreSound gs → GroupsAreSound now
 sound-but gs now ordered was sound = record {
   ordered = ordered;
   groups = λ i j h k is is' same. let w = was i h is in let x = was j k is' in grind (arith, sound.groups i j w.group x.group w.kept x.kept);
@@ -175,7 +175,7 @@ sound-but gs now ordered was sound = record {
   owned = λ i j p q n h k is is' at at'. let w = was i h is in let x = was j k is' in grind (arith, sound.owned i j p q n w.group x.group w.kept x.kept);
 }
 
-pub counted-sound : (gs : Groups) (fs : List ℕ) → IsSound gs → IsSound (count_groups gs fs)
+pub counted-sound : (gs : Groups) (fs : List ℕ) → GroupsAreSound gs → GroupsAreSound (count_groups gs fs)
 counted-sound gs fs sound = sound-but gs (count_groups gs fs) (counts-ordered gs fs sound.ordered) (counted-was gs fs) sound
 
 -- ---- groups that modules leave
@@ -206,12 +206,12 @@ leave-ordered gs f o h1 = grind (arith, cond_both, nat_le, nat_eq, remove-ordere
 pub leave-was : (gs : Groups) (f : ℕ) (o : Option Group) → found gs f ≡ o → AreOrdered gs → (i : ℕ) (h : Group) → found (leave_group gs f o) i ≡ Some h → IsBut gs i h
 leave-was gs f o h1 h2 i h h3 = grind (arith, nat_le, nat_eq, removed-was, but-of, set-bare)
 
-leave-sound : (gs : Groups) (f : ℕ) (o : Option Group) → found gs f ≡ o → IsSound gs → IsSound (leave_group gs f o)
+leave-sound : (gs : Groups) (f : ℕ) (o : Option Group) → found gs f ≡ o → GroupsAreSound gs → GroupsAreSound (leave_group gs f o)
 leave-sound gs f o e sound = sound-but gs (leave_group gs f o) (leave-ordered gs f o sound.ordered) (leave-was gs f o e sound.ordered) sound
 
-pub left-sound : (gs : Groups) (fs : List ℕ) → IsSound gs → IsSound (leave_groups gs fs)
+pub left-sound : (gs : Groups) (fs : List ℕ) → GroupsAreSound gs → GroupsAreSound (leave_groups gs fs)
 left-sound gs [] sound = sound
 left-sound gs (f ∷ fs) sound = left-sound (leave_group gs f (found gs f)) fs (leave-sound gs f (found gs f) refl sound)
 
-pub none-sound : IsSound []
+pub none-sound : GroupsAreSound []
 none-sound = grind (arith, none-some)

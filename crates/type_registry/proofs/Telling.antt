@@ -2,7 +2,7 @@
 use Rattle.std.proofs.Common.{◌≡◌, ℕ, zero, suc, ◌-◌, ◌<◌, ◌≤◌, List, [], ◌∷◌, length, take, get_or, slice_get, Option, Some, None, refl, ap, arith}
 use Rattle.std.proofs.lemmas.List.{length-map}
 use Rattle.std.proofs.lemmas.Option.{slice_get-get_or}
-use Rattle.type_spec.specs.Interned.{Span}
+use Rattle.type_spec.specs.Interned.{GroupSpan}
 use Rattle.wasm_types.specs.declared.sub.WasmRecGroup.{WasmRecGroup}
 use Rattle.module_types.specs.Views.{interned_of}
 use Rattle.module_types.specs.TypeList.{TypeList}
@@ -37,7 +37,7 @@ module _ {r : Registry} {a : ℕ} {l : TypeList} (listed : Listed l) (st : Stand
   abbrev pub engine : EngineMap
   engine = given indices
 
-  abbrev span : ℕ → Span
+  abbrev span : ℕ → GroupSpan
   span k = span_at (list_of l) k
 
   abbrev pub canonicals : ℕ → WasmRecGroup

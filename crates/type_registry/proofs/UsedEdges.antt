@@ -10,7 +10,7 @@ use Rattle.type_spec.specs.Names.{named, by_name, alike-mapped, index_of as inde
 use Rattle.type_spec.specs.Shapes.{erased}
 use Rattle.type_spec.specs.ListLaws.{map-twice}
 use Rattle.type_spec.specs.TypeShapes.{group_shape}
-use Rattle.type_spec.specs.Interned.{Span}
+use Rattle.type_spec.specs.Interned.{GroupSpan}
 use Rattle.wasm_types.specs.declared.index.EngineOrModuleTypeIndex.{EngineOrModuleTypeIndex}
 use Rattle.form_types.proofs.AllOf.{All-joined}
 use Rattle.wasm_index.specs.declared.index.Index.{Index}
@@ -26,7 +26,7 @@ use Rattle.module_types.specs.TypeList.{TypeList}
 use Rattle.type_registry.specs.Registry.{HasEngineEdges, used_edge, used_type}
 use Rattle.type_registry.specs.Changes.{members_of, edges_of, given, canonical_data, IsGiven}
 
-module _ (before new : List ℕ) (s : Span) (at : length before ≡ s.start) where
+module _ (before new : List ℕ) (s : GroupSpan) (at : length before ≡ s.start) where
   abbrev used : EngineOrModuleTypeIndex → EngineOrModuleTypeIndex
   used e = runtime_edge (given (before ++ new)) e
 

@@ -9,7 +9,7 @@ use Rattle.wasm_types.specs.declared.sub.WasmSubType.{WasmSubType}
 use Rattle.type_registry.specs.declared.owners.Owner.{Owner}
 use Rattle.type_registry.specs.Registry.{Group, Groups, UsedType, used_type, used_types}
 use Rattle.type_registry.specs.Owners.{owner_at}
-use Rattle.type_registry.specs.Keeping.{kept_from, group_in, AreKept}
+use Rattle.type_registry.specs.Keeping.{kept_from, group_in, AreKeptByKeys}
 use Rattle.type_registry.proofs.OwnerLists.{place-any}
 
 abbrev pub or_else : Option UsedType → Option UsedType → Option UsedType
@@ -62,7 +62,7 @@ hit (Some x ∷ gs) k (suc m) n p g at is one others =
 hit _ _ _ _ _ g at _ _ _ = absurd (none-some g at)
 
 module _ {Key : Type 0} {content : Key → List WasmSubType} {live : ℕ} {known : Key → Option ℕ} {gs : List (Option Group)} {os : List (Option Owner)}
-    {free : List ℕ} (k : AreKept content live known gs os free) {now : Groups} (seen : kept_from 0 gs ≡ now) (n : ℕ) where
+    {free : List ℕ} (k : AreKeptByKeys content live known gs os free) {now : Groups} (seen : kept_from 0 gs ≡ now) (n : ℕ) where
   -- an index without an owner is in no group
   pub no-type : owner_at os n ≡ None → lookup (nat_eq n) (used_types now) ≡ None
   no-type none = rw (← seen) (miss gs 0 n (λ m g at. false_from_ne_true (list_any (nat_eq n) g.indices) (λ e. grind (arith, place-any g.indices n e))))

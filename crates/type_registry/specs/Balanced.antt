@@ -2,7 +2,7 @@
 use Rattle.std.specs.Prelude.{◌≡◌, ◌<◌, ◌≤◌, ◌+◌, ℕ, zero, suc, nat_eq, List, [], ◌∷◌, Option, Some, None, if◌then◌else◌}
 use Rattle.std.specs.List.{flat_map}
 use Rattle.type_registry.specs.Registry.{Registry, Group, Module}
-use Rattle.type_registry.specs.Standing.{kept_at, IsSound}
+use Rattle.type_registry.specs.Standing.{kept_at, GroupsAreSound}
 
 -- how often a list has a number
 abbrev pub times : ℕ → List ℕ → ℕ
@@ -36,7 +36,7 @@ indices_at r first = indices_in (kept_at r first)
 -- held modules have it, and its count is how often they have it; and the list of a held module is
 -- the concatenation of its groups
 pub record IsBalanced (r : Registry) : Type 0 where
-  pub sound : IsSound r.groups
+  pub sound : GroupsAreSound r.groups
   pub unused : (key : ℕ) → r.registrations ≤ key → r.held key ≡ None
   pub counted : (first : ℕ) → count_in (kept_at r first) ≡ times_below r.held first r.registrations
   pub had : (first : ℕ) (g : Group) → kept_at r first ≡ Some g → 0 < g.count

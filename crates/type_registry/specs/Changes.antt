@@ -5,7 +5,7 @@ use Rattle.std.specs.Map.{lookup, set_value, remove_entry}
 use Rattle.wasm_spec.specs.TypeData as types
 use Rattle.wasm_spec.specs.TypeData.{map_group, group_edges}
 use Rattle.type_spec.specs.Names.{named, index_of as index_in}
-use Rattle.type_spec.specs.Interned.{Span}
+use Rattle.type_spec.specs.Interned.{GroupSpan}
 use Rattle.wasm_index.specs.Index.{number_of, index_of}
 use Rattle.wasm_types.specs.declared.index.EngineOrModuleTypeIndex.{EngineOrModuleTypeIndex}
 use Rattle.wasm_types.specs.declared.sub.WasmSubType.{WasmSubType}
@@ -46,7 +46,7 @@ abbrev pub given : List ℕ → EngineMap
 given indices i = index_of (get_or indices (number_of i) 0)
 
 -- the types of a span
-abbrev pub members_of : TypeList → Span → List WasmSubType
+abbrev pub members_of : TypeList → GroupSpan → List WasmSubType
 members_of l s = take (s.end - s.start) (drop s.start l.types)
 
 -- the references of types, in order
@@ -58,11 +58,11 @@ abbrev pub IsGiven : ℕ → TypeIndex → Type 0
 IsGiven n i = number_of i < n
 
 -- references inside the group by their positions, and all others by the engine's indices
-abbrev pub canonical_data : TypeList → List ℕ → Span → types.Group Name EngineOrModuleTypeIndex
+abbrev pub canonical_data : TypeList → List ℕ → GroupSpan → types.Group Name EngineOrModuleTypeIndex
 canonical_data l indices s =
     map_group (named (consed_edge (given indices) s.start)) (consed_edge (given indices) s.start) (group_of (members_of l s))
 
-abbrev pub canonical_of : TypeList → List ℕ → Span → List WasmSubType
+abbrev pub canonical_of : TypeList → List ℕ → GroupSpan → List WasmSubType
 canonical_of l indices s = group_back.back (canonical_data l indices s)
 
 -- ---- the groups of a module, in order
@@ -105,15 +105,15 @@ abbrev pub take_group : Plan → Group → Option Group → Plan
 take_group p new (Some g) = record p { listed = with_group p.listed g }
 take_group p new None = record { listed = with_group p.listed new; fresh = p.fresh ++ at_first new ∷ [] }
 
-abbrev pub size_of : Span → ℕ
+abbrev pub size_of : GroupSpan → ℕ
 size_of s = s.end - s.start
 
-abbrev pub plan_group : Groups → TypeList → Plan → Span → Plan
+abbrev pub plan_group : Groups → TypeList → Plan → GroupSpan → Plan
 plan_group gs l p s =
     let canonical = canonical_of l p.listed.indices s in
     take_group p (next_group gs p.fresh canonical (size_of s)) (find_group canonical (gs ++ p.fresh))
 
-abbrev pub plan_groups : Groups → TypeList → Plan → List Span → Plan
+abbrev pub plan_groups : Groups → TypeList → Plan → List GroupSpan → Plan
 plan_groups gs l p [] = p
 plan_groups gs l p (s ∷ ss) = plan_groups gs l (plan_group gs l p s) ss
 

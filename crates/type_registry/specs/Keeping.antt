@@ -34,7 +34,7 @@ pub record HasCanonical (gs : List (Option Group)) (f : ℕ) (c : List WasmSubTy
 
 -- how many indices are live; the owner of each; and the first index of each group by keys that are
 -- its canonical members
-pub record AreKept {Key : Type 0} (content : Key → List WasmSubType) (live : ℕ) (known : Key → Option ℕ) (gs : List (Option Group))
+pub record AreKeptByKeys {Key : Type 0} (content : Key → List WasmSubType) (live : ℕ) (known : Key → Option ℕ) (gs : List (Option Group))
     (os : List (Option Owner)) (free : List ℕ) : Type 0 where
   pub few : length gs < 4294967296
   pub owners : length os ≡ length gs
@@ -55,5 +55,5 @@ shared_content r = r.value
 abbrev pub first_of : HashMap Shared ℕ GroupHashes → Shared → Option ℕ
 first_of known key = get_by (λ (k : Shared). groups_equal.ghosts.eq key.value k.value) known
 
-abbrev pub IsKept : ℕ → HashMap Shared ℕ GroupHashes → List (Option Group) → List (Option Owner) → List ℕ → Type 0
-IsKept live known gs os free = AreKept shared_content live (first_of known) gs os free
+abbrev pub GroupsAreKept : ℕ → HashMap Shared ℕ GroupHashes → List (Option Group) → List (Option Owner) → List ℕ → Type 0
+GroupsAreKept live known gs os free = AreKeptByKeys shared_content live (first_of known) gs os free

@@ -1,7 +1,7 @@
 -- How the groups of a module are planned, one after another.
 use Rattle.std.specs.Prelude.{◌≡◌, ◌<◌, ◌≤◌, ⊤, ℕ, List, [], ◌∷◌, length, slice_get, Option, Some}
 use Rattle.std.specs.List.{All}
-use Rattle.type_spec.specs.Interned.{Span}
+use Rattle.type_spec.specs.Interned.{GroupSpan}
 use Rattle.wasm_types.specs.declared.sub.WasmSubType.{WasmSubType}
 use Rattle.wasm_trace.specs.Canonical.{CanBeConsedEdge, CanBeRuntimeEdge}
 use Rattle.module_types.specs.TypeList.{TypeList}
@@ -11,7 +11,7 @@ use Rattle.type_registry.specs.Changes.{Plan, IsGiven, members_of, edges_of, fre
 -- ---- groups of a list that may be planned
 
 -- a group of a list that has members, whose references name types of earlier groups or of its own
-pub record MayBePlanned (l : TypeList) (s : Span) : Type 0 where
+pub record MayBePlanned (l : TypeList) (s : GroupSpan) : Type 0 where
   pub some : s.start < s.end
   pub within : s.end ≤ length l.types
   pub few : s.end < 4294967295
@@ -19,7 +19,7 @@ pub record MayBePlanned (l : TypeList) (s : Span) : Type 0 where
   pub used : All (CanBeRuntimeEdge (IsGiven s.end)) (edges_of (members_of l s))
 
 -- consecutive groups, from a type on
-abbrev pub MayBePlannedFrom : TypeList → ℕ → List Span → Type 0
+abbrev pub MayBePlannedFrom : TypeList → ℕ → List GroupSpan → Type 0
 MayBePlannedFrom l first [] = ⊤
 MayBePlannedFrom l first (s ∷ ss) = (s.start ≡ first) × MayBePlanned l s × MayBePlannedFrom l s.end ss
 

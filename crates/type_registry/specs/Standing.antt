@@ -2,7 +2,7 @@
 use Rattle.std.specs.Prelude.{◌≡◌, ◌<◌, ◌+◌, ◌↔◌, ⊤, ℕ, nat_eq, List, [], ◌∷◌, map, length, get_or, take, drop, slice_get, Contains, Option, Some}
 use Rattle.wasm_types.specs.TypeViews.{group_of}
 use Rattle.std.specs.Map.{lookup}
-use Rattle.type_spec.specs.Interned.{Span}
+use Rattle.type_spec.specs.Interned.{GroupSpan}
 use Rattle.type_spec.specs.Equality.{SameType}
 use Rattle.module_types.specs.Views.{span_of}
 use Rattle.module_types.specs.TypeList.{TypeList}
@@ -26,7 +26,7 @@ AreOrdered (e ∷ es) = AreAbove e.0 es × AreOrdered es
 
 -- groups at their first indices, in their order: no two are equal, and an index belongs to one
 -- member of one group
-pub record IsSound (gs : Groups) : Type 0 where
+pub record GroupsAreSound (gs : Groups) : Type 0 where
   pub ordered : AreOrdered gs
   pub groups : (i j : ℕ) (g h : Group) → lookup (nat_eq i) gs ≡ Some g → lookup (nat_eq j) gs ≡ Some h → g.canonical ≡ h.canonical → i ≡ j
   pub members : (i : ℕ) (g : Group) → lookup (nat_eq i) gs ≡ Some g → length g.indices ≡ length g.canonical
@@ -35,7 +35,7 @@ pub record IsSound (gs : Groups) : Type 0 where
       → slice_get g.indices p ≡ Some n → slice_get h.indices q ≡ Some n → (i ≡ j) × (p ≡ q)
 
 -- the group of a span is the one that is kept at the indices of its members
-pub record GroupStands (r : Registry) (indices : List ℕ) (l : TypeList) (s : Span) : Type 0 where
+pub record GroupStands (r : Registry) (indices : List ℕ) (l : TypeList) (s : GroupSpan) : Type 0 where
   pub group : Group
   pub kept : kept_at r (get_or indices s.start 0) ≡ Some group
   pub at : group.indices ≡ take (size_of s) (drop s.start indices)
@@ -44,11 +44,11 @@ pub record GroupStands (r : Registry) (indices : List ℕ) (l : TypeList) (s : S
 -- the key is held, its list is as long as that of the types, and each group is kept at the indices
 -- of its members
 pub record Stands (r : Registry) (key : ℕ) (l : TypeList) : Type 0 where
-  pub sound : IsSound r.groups
+  pub sound : GroupsAreSound r.groups
   pub listed : Module
   pub held : r.held key ≡ Some listed
   pub count : length listed.indices ≡ length l.types
-  pub groups : (k : ℕ) (s : Span) → slice_get (map span_of l.groups) k ≡ Some s → GroupStands r listed.indices l s
+  pub groups : (k : ℕ) (s : GroupSpan) → slice_get (map span_of l.groups) k ≡ Some s → GroupStands r listed.indices l s
 
 -- an index is live exactly where the list of some held key has it
 pub record IsHeld (r : Registry) (i : ℕ) : Type 0 where
@@ -71,4 +71,4 @@ pub record MayRegister (r : Registry) (l : TypeList) : Type 0 where
   pub few : length l.types < 4294967295
   pub most : r.max_types < 4294967295
   pub fits : r.max_types < length (live r) + fresh r l → ⊥
-  pub sound : IsSound r.groups
+  pub sound : GroupsAreSound r.groups

@@ -44,13 +44,13 @@ impl Model for Groups {
     ghost use Rattle.std.specs.Prelude.{length};
     ghost use Rattle.std.specs.HashMap.{spare};
     ghost use Rattle.type_registry.specs.Registry.{GroupsState};
-    ghost use Rattle.type_registry.specs.Keeping.{kept_from, IsKept};
+    ghost use Rattle.type_registry.specs.Keeping.{kept_from, GroupsAreKept};
 
     ghost Value = { GroupsState };
 
     ghost view = { λ m. record { groups = kept_from 0 m.kept.items; room = length m.kept.items; spare = spare m.known } };
 
-    ghost invariant = { λ m. IsKept m.live m.known m.kept.items m.owners.items m.free };
+    ghost invariant = { λ m. GroupsAreKept m.live m.known m.kept.items m.owners.items m.free };
 }
 
 impl Groups {

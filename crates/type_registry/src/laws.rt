@@ -10,7 +10,7 @@ ghost use Rattle.module_types.specs.TypeList.{TypeList};
 ghost use Rattle.type_registry.specs.Registry.{Registry, empty, index_at};
 ghost use Rattle.type_registry.specs.Changes.{registered, released};
 ghost use Rattle.module_types.specs.Listed.{Listed, list_of};
-ghost use Rattle.type_registry.specs.Standing.{IsSound, LiveWhereHeld, MayRegister, Stands, TellsTypes};
+ghost use Rattle.type_registry.specs.Standing.{GroupsAreSound, LiveWhereHeld, MayRegister, Stands, TellsTypes};
 ghost use Rattle.type_registry.specs.Balanced.{IsBalanced};
 
 use module_types::well_named_law;
@@ -41,9 +41,9 @@ pub fn order_law()
 /// Kept groups are told apart in a registry that holds nothing, once a module is registered, and
 /// once one is released.
 pub fn sound_law()
-    ensures empty { (n : ℕ) → IsSound (empty n).groups }
-    ensures registered { (r : Registry) (l : TypeList) → MayRegister r l → IsSound (registered r l).groups }
-    ensures released { (r : Registry) (key : ℕ) → IsSound r.groups → IsSound (released r key).groups }
+    ensures empty { (n : ℕ) → GroupsAreSound (empty n).groups }
+    ensures registered { (r : Registry) (l : TypeList) → MayRegister r l → GroupsAreSound (registered r l).groups }
+    ensures released { (r : Registry) (key : ℕ) → GroupsAreSound r.groups → GroupsAreSound (released r key).groups }
 {
     equality_law();
 }

@@ -26,7 +26,7 @@ use wasm_types::{WasmRecGroup, equality_law};
 
 /// What a registration reads.
 #[derive(Clone, Copy)]
-pub(crate) struct Source<'a> {
+pub(crate) struct RegistrationInput<'a> {
     pub(crate) alloc: Global,
     pub(crate) types: &'a ModuleTypes,
     pub(crate) groups: &'a Groups,
@@ -84,7 +84,7 @@ fn find_equal<'a>(
 /// A group that no module has yet, whose members have these indices: the last of those assigned to
 /// types so far.
 fn fresh_group(
-    source: Source<'_>,
+    source: RegistrationInput<'_>,
     start: u32,
     end: u32,
     given: &[VMSharedTypeIndex],
@@ -111,7 +111,7 @@ fn fresh_group(
 
 /// A group that is not known gets the next indices that are not live.
 fn take_new(
-    source: Source<'_>,
+    source: RegistrationInput<'_>,
     start: u32,
     end: u32,
     canonical: Rc<WasmRecGroup>,
@@ -136,7 +136,7 @@ fn take_new(
 
 /// The canonical members of a group, to be shared.
 fn shared_canonical(
-    source: Source<'_>,
+    source: RegistrationInput<'_>,
     start: u32,
     end: u32,
     given: &[VMSharedTypeIndex],
@@ -152,7 +152,7 @@ fn shared_canonical(
 
 /// Plans the next group of a module.
 fn take_group(
-    source: Source<'_>,
+    source: RegistrationInput<'_>,
     start: u32,
     end: u32,
     listed: &mut Held,
@@ -188,7 +188,10 @@ fn take_group(
 ///
 /// # Errors
 /// `Full` where the new groups have more members than there is capacity for, and `OutOfMemory`.
-pub(crate) fn plan_groups(source: Source<'_>, seed: u64) -> Result<Planned, RegistryError>
+pub(crate) fn plan_groups(
+    source: RegistrationInput<'_>,
+    seed: u64,
+) -> Result<Planned, RegistryError>
     requires listed { Listed source.types.now }
     requires few { length (indices_of source.groups.now.groups) + source.room < u32.MAX }
     ensures ok { IfOk result (λ p. p ≡ plan_groups source.entry.groups.now.groups source.entry.types.now begun (map span_of source.entry.types.now.groups)) }

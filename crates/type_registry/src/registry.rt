@@ -20,7 +20,7 @@ use crate::hashing::next_seed;
 use crate::kept::Held;
 use crate::key::ModuleKey;
 use crate::plan::Fresh;
-use crate::planning::{Planned, Source, plan_groups};
+use crate::planning::{Planned, RegistrationInput, plan_groups};
 use entity_map::EntityRef;
 use module_types::ModuleTypes;
 use std::alloc::Global;
@@ -200,7 +200,7 @@ impl TypeRegistry {
         ensures full { IsErrOf result refused.Full → self.now.max_types < length (live (registry_of self.now)) + fresh (registry_of self.now) types.now }
         ensures held { IsErrOf result refused.NotHeld → ⊥ }
     {
-        let source = Source {
+        let source = RegistrationInput {
             alloc: self.alloc,
             types,
             groups: &self.groups,

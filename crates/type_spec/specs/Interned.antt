@@ -3,7 +3,7 @@
 use Rattle.std.specs.Prelude.{◌≡◌, ℕ, zero, suc, ◌+◌, ◌-◌, get_or, Bool, true, false, List, [], ◌∷◌, ◌++◌, length, map, replicate, set, Option, Some, None, if◌then◌else◌}
 use Rattle.std.specs.Bool.{Decides}
 use Rattle.std.specs.List.{fold}
-use Rattle.wasm_spec.specs.TypeData.{Heap, Concrete, Abstract, Value, Ref, Val, Field, Function, Composite, Func, Array, Struct, Cont, Exn, SubType, Group, map_function, map_group}
+use Rattle.wasm_spec.specs.TypeData.{Heap, Concrete, Abstract, ValueType, Ref, Val, Field, Function, Composite, Func, Array, Struct, Cont, Exn, SubType, Group, map_function, map_group}
 use Rattle.type_spec.specs.Shapes.{erased}
 use Rattle.type_spec.specs.Tops.{top}
 use Rattle.type_spec.specs.Names.{NameKind, FuncName, ArrayName, StructName, ContName, ExnName, Named}
@@ -23,7 +23,7 @@ Called = Function (Named ℕ)
 -- ---- what a trampoline passes
 
 -- the type that a trampoline passes for another: each reference nullable with its top
-abbrev pub passed : Value (Named ℕ) → Value (Named ℕ)
+abbrev pub passed : ValueType (Named ℕ) → ValueType (Named ℕ)
 passed (Ref r) = Ref (record { nullable = true; heap = Abstract (top r.heap) })
 passed v = v
 
@@ -42,7 +42,7 @@ same_mapped f g = (decide_mapped f g).0
 -- ---- what is built
 
 -- the indices of a group: from one up to another
-pub record Span : Type 0 where
+pub record GroupSpan : Type 0 where
   pub start : ℕ
   pub end : ℕ
 
@@ -50,7 +50,7 @@ pub record Span : Type 0 where
 -- trampoline that is known of each mapped type
 pub record Built : Type 0 where
   pub types : List Interned
-  pub groups : List Span
+  pub groups : List GroupSpan
   pub trampolines : List (Option ℕ)
   pub known_trampolines : Called → Option ℕ
 
@@ -65,7 +65,7 @@ abbrev pub plain : Composite (Named ℕ) ℕ → Interned
 plain c = record { is_final = true; supertype = None; composite = record { inner = c; shared = false } }
 
 -- some types that come next
-abbrev pub next_span : Built → ℕ → Span
+abbrev pub next_span : Built → ℕ → GroupSpan
 next_span b count = record { start = length b.types; end = length b.types + count }
 
 -- a type in a group of its own
@@ -168,7 +168,7 @@ taken groups =
 -- ---- exception types, and the startup type
 
 -- one field for a parameter
-abbrev pub field_for : Value (Named ℕ) → Field (Named ℕ)
+abbrev pub field_for : ValueType (Named ℕ) → Field (Named ℕ)
 field_for v = record { element = Val v; mutable = false }
 
 abbrev pub exception_for : ℕ → Composite (Named ℕ) ℕ → Composite (Named ℕ) ℕ

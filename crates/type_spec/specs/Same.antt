@@ -4,7 +4,7 @@ use Rattle.std.specs.Bool.{beq}
 use Rattle.std.specs.Cmp.Lexicographic.{pointwise}
 use Rattle.wasm_spec.specs.declared.types.AbstractHeapType.{AbstractHeapType}
 use Rattle.wasm_spec.specs.declared.types.AbstractHeapType.TheVariants as heap
-use Rattle.wasm_spec.specs.TypeData.{Heap, Concrete, Abstract, Reference, Value, I32, I64, F32, F64, V128, Ref, Storage, I8, I16, Val, Field, Function, Composite, Func, Array, Struct, Cont, Exn, Shared, SubType, Group}
+use Rattle.wasm_spec.specs.TypeData.{Heap, Concrete, Abstract, Reference, ValueType, I32, I64, F32, F64, V128, Ref, Storage, I8, I16, Val, Field, Function, Composite, Func, Array, Struct, Cont, Exn, Shared, SubType, Group}
 
 -- the byte of an abstract heap type
 abbrev pub heap_byte : AbstractHeapType → ℕ
@@ -35,7 +35,7 @@ same_heap _ _ = false
 abbrev pub same_reference : Reference Gap → Reference Gap → Bool
 same_reference a b = beq a.nullable b.nullable && same_heap a.heap b.heap
 
-abbrev pub same_value : Value Gap → Value Gap → Bool
+abbrev pub same_value : ValueType Gap → ValueType Gap → Bool
 same_value I32 I32 = true
 same_value I64 I64 = true
 same_value F32 F32 = true

@@ -7,7 +7,7 @@ use Rattle.std.proofs.lemmas.Bool.Decides.{Decides-and, Decides-eqb, Decides-lik
 use Rattle.std.proofs.lemmas.Slice.Eq.{slice_eq-Decides}
 use Rattle.wasm_spec.specs.declared.types.AbstractHeapType.{AbstractHeapType}
 use Rattle.wasm_spec.specs.declared.types.AbstractHeapType.TheVariants as heap
-use Rattle.wasm_spec.specs.TypeData.{Heap, Concrete, Abstract, Reference, Value, I32, I64, F32, F64, V128, Ref, Storage, I8, I16, Val, Field, Function, Composite, Func, Array, Struct, Cont, Exn, Shared, SubType, Group}
+use Rattle.wasm_spec.specs.TypeData.{Heap, Concrete, Abstract, Reference, ValueType, I32, I64, F32, F64, V128, Ref, Storage, I8, I16, Val, Field, Function, Composite, Func, Array, Struct, Cont, Exn, Shared, SubType, Group}
 use Rattle.type_spec.specs.Same.{heap_byte, Gap, same_heap, same_reference, same_value, same_storage, same_field, same_function, same_composite, same_supertype, same_shared, same_sub_type, same_frame}
 
 -- a test of two parts, which together determine the value
@@ -55,7 +55,7 @@ reference-decides =
     both-decide (λ (r : Reference Gap). r.nullable) (λ (r : Reference Gap). r.heap) beq same_heap booleans_Decides heap-decides
     (λ a b nullable heap i. record { nullable = nullable i; heap = heap i })
 
-value-decides : (a b : Value Gap) → Decides (same_value a b) (a ≡ b)
+value-decides : (a b : ValueType Gap) → Decides (same_value a b) (a ≡ b)
 value-decides I32 I32 = (λ same. refl, λ same. refl)
 value-decides I64 I64 = (λ same. refl, λ same. refl)
 value-decides F32 F32 = (λ same. refl, λ same. refl)

@@ -4,7 +4,7 @@ use Rattle.std.specs.List.{flat_map}
 use Rattle.std.specs.Option.{option_map, option_to_list}
 use Rattle.std.proofs.Common.{◌≡◌, ◌∙◌, refl, sym, ap}
 use Rattle.std.proofs.lemmas.List.{map-append}
-use Rattle.wasm_spec.specs.TypeData.{Heap, Concrete, Abstract, Reference, Value, I32, I64, F32, F64, V128, Ref, Storage, I8, I16, Val, Field, Function, Exception, Composite, Func, Array, Struct, Cont, Exn, Shared, SubType, Group, map_heap, map_reference, map_value, map_storage, map_field, map_function, map_exception, map_composite, map_shared, map_sub_type, heap_edges, reference_edges, value_edges, storage_edges, field_edges, function_edges, exception_edges, composite_edges, shared_edges, sub_type_edges}
+use Rattle.wasm_spec.specs.TypeData.{Heap, Concrete, Abstract, Reference, ValueType, I32, I64, F32, F64, V128, Ref, Storage, I8, I16, Val, Field, Function, Exception, Composite, Func, Array, Struct, Cont, Exn, Shared, SubType, Group, map_heap, map_reference, map_value, map_storage, map_field, map_function, map_exception, map_composite, map_shared, map_sub_type, heap_edges, reference_edges, value_edges, storage_edges, field_edges, function_edges, exception_edges, composite_edges, shared_edges, sub_type_edges}
 use Rattle.type_spec.specs.ListLaws.{front-same, back-same}
 use Rattle.type_spec.specs.Shapes.{Shape, Tells, erased, edge_count, listed}
 
@@ -14,7 +14,7 @@ module _ {H : Type 0} where
   heap-same (Concrete a) = refl
   heap-same (Abstract h) = refl
 
-  pub value-same : (x : Value H) → map_value (λ a. a) x ≡ x
+  pub value-same : (x : ValueType H) → map_value (λ a. a) x ≡ x
   value-same (Ref x) = ap Ref (λ i. record x { heap = heap-same x.heap i })
   value-same x = refl
 
@@ -28,7 +28,7 @@ module _ {A B C : Type 0} (f : A → B) (g : B → C) where
   heap-twice (Concrete a) = refl
   heap-twice (Abstract h) = refl
 
-  pub value-twice : (x : Value A) → map_value g (map_value f x) ≡ map_value (λ a. g (f a)) x
+  pub value-twice : (x : ValueType A) → map_value g (map_value f x) ≡ map_value (λ a. g (f a)) x
   value-twice (Ref x) = ap Ref (λ i. record { nullable = x.nullable; heap = heap-twice x.heap i })
   value-twice I32 = refl
   value-twice I64 = refl
@@ -47,7 +47,7 @@ module _ {H H' R R' : Type 0} (index : H → R) (index' : H' → R') (h : H → 
   heap-edges (Concrete a) = λ i. each a i ∷ []
   heap-edges (Abstract x) = refl
 
-  pub value-edges : (x : Value H) → value_edges index' (map_value h x) ≡ map f (value_edges index x)
+  pub value-edges : (x : ValueType H) → value_edges index' (map_value h x) ≡ map f (value_edges index x)
   value-edges (Ref x) = heap-edges x.heap
   value-edges I32 = refl
   value-edges I64 = refl
@@ -81,7 +81,7 @@ module _ {H K R : Type 0} (kind : H → K) (index : H → R) (tells : Tells kind
       let nullable : x.nullable ≡ y.nullable = ap (λ r. r.nullable) frames in
       λ i. record { nullable = nullable i; heap = heap i }
 
-  pub value-determined : (x y : Value H) → map_value kind x ≡ map_value kind y → value_edges index x ≡ value_edges index y → x ≡ y
+  pub value-determined : (x y : ValueType H) → map_value kind x ≡ map_value kind y → value_edges index x ≡ value_edges index y → x ≡ y
   value-determined I32 I32 frames all = refl
   value-determined I64 I64 frames all = refl
   value-determined F32 F32 frames all = refl
@@ -129,7 +129,7 @@ reference_shape = record {
   determined = reference-determined;
 }
 
-abbrev pub value_shape : Shape (λ H R. Value H)
+abbrev pub value_shape : Shape (λ H R. ValueType H)
 value_shape = record {
   map = λ h f x. map_value h x;
   edges = λ index x. value_edges index x;
@@ -162,7 +162,7 @@ field_shape = record {
 abbrev pub fields_shape : Shape (λ H R. List (Field H))
 fields_shape = listed field_shape
 
-abbrev pub values_shape : Shape (λ H R. List (Value H))
+abbrev pub values_shape : Shape (λ H R. List (ValueType H))
 values_shape = listed value_shape
 
 -- ---- the parts that hold lists

@@ -1,12 +1,12 @@
 -- Small lists of groups.
 use Rattle.std.specs.Prelude.{ℕ, Bool, true, false, List, [], ◌∷◌, None}
 use Rattle.wasm_spec.specs.declared.types.AbstractHeapType.TheVariants as heap
-use Rattle.wasm_spec.specs.TypeData.{Group, SubType, Heap, Value, Ref, Concrete, Abstract, Func}
+use Rattle.wasm_spec.specs.TypeData.{Group, SubType, Heap, ValueType, Ref, Concrete, Abstract, Func}
 
-abbrev pub function : Bool → List (Value ℕ) → SubType ℕ ℕ
+abbrev pub function : Bool → List (ValueType ℕ) → SubType ℕ ℕ
 function final ps = record { is_final = final; supertype = None; composite = record { inner = Func (record { params = ps; results = [] }); shared = false } }
 
-abbrev pub to : ℕ → Value ℕ
+abbrev pub to : ℕ → ValueType ℕ
 to i = Ref (record { nullable = true; heap = Concrete i })
 
 -- [] -> [], a function that takes it, the same two again, and a function that takes the other
@@ -29,10 +29,10 @@ repeated = (function true [] ∷ []) ∷ (function true [] ∷ []) ∷ (function
 abbrev pub turned : List (Group ℕ ℕ)
 turned = (function false [] ∷ []) ∷ (function true [] ∷ []) ∷ []
 
-abbrev pub not_null : {H : Type 0} → Heap H → Value H
+abbrev pub not_null : {H : Type 0} → Heap H → ValueType H
 not_null h = Ref (record { nullable = false; heap = h })
 
-abbrev pub or_null : {H : Type 0} → Heap H → Value H
+abbrev pub or_null : {H : Type 0} → Heap H → ValueType H
 or_null h = Ref (record { nullable = true; heap = h })
 
 -- a function that takes a reference to itself, which is not null

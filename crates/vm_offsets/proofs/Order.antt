@@ -7,7 +7,7 @@ use Rattle.std.proofs.lemmas.List.Kept.{AllPairs-cons}
 use Rattle.vm_structs.specs.Fields.{end_of}
 use Rattle.vm_structs.specs.Structs.{static_context}
 use Rattle.vm_offsets.specs.declared.fields.VMOffsetsFields.{VMOffsetsFields}
-use Rattle.vm_offsets.specs.Context.{Row, align, entry, Placed, entry_end, placed_from, end_from, context_table, context_entries, context_size}
+use Rattle.vm_offsets.specs.Context.{ContextRow, align, entry, Placed, entry_end, placed_from, end_from, context_table, context_entries, context_size}
 use Rattle.vm_offsets.specs.Regions.{static_part}
 use Rattle.vm_offsets.proofs.Placing.{end_from-grows}
 
@@ -16,7 +16,7 @@ abbrev pub Rises : ℕ → List Placed → ℕ → Type 0
 Rises at [] end = at ≤ end
 Rises at (placed ∷ others) end = (at ≤ placed.begin) × Rises placed.begin others end
 
-pub rises : (low at : ℕ) (rows : List Row) → low ≤ at → Rises low (placed_from at rows) (end_from at rows)
+pub rises : (low at : ℕ) (rows : List ContextRow) → low ≤ at → Rises low (placed_from at rows) (end_from at rows)
 rises low at [] h = h
 rises low at (align to ∷ rows) h = rises low (next_multiple_of at to) rows (omega arith)
 rises low at (entry description count size ∷ rows) h = (h, rises at (at + count * size) rows (omega arith))
@@ -28,14 +28,14 @@ unfolding context_entries context_size
 all_rise pointer c = (omega arith, rises 0 (end_of static_context pointer) (context_table pointer c) (omega arith))
 
 -- no entry begins before the table does
-after : (at : ℕ) (rows : List Row) → All (λ placed. at ≤ placed.begin) (placed_from at rows)
+after : (at : ℕ) (rows : List ContextRow) → All (λ placed. at ≤ placed.begin) (placed_from at rows)
 after at [] = λ k d h. absurd (omega arith)
 after at (align to ∷ rows) = λ k d h. omega (arith, after (next_multiple_of at to) rows k d h)
 after at (entry description count size ∷ rows) =
     All-cons (λ (placed : Placed). at ≤ placed.begin) _ _ (omega arith) (λ k d h. omega (arith, after (at + count * size) rows k d h))
 
 -- no entry begins before an earlier one ends
-apart : (at : ℕ) (rows : List Row) → AllPairs (λ earlier later. entry_end earlier ≤ later.begin) (placed_from at rows)
+apart : (at : ℕ) (rows : List ContextRow) → AllPairs (λ earlier later. entry_end earlier ≤ later.begin) (placed_from at rows)
 apart at [] = λ i j d below room. absurd (omega arith)
 apart at (align to ∷ rows) = apart (next_multiple_of at to) rows
 apart at (entry description count size ∷ rows) =
@@ -43,7 +43,7 @@ apart at (entry description count size ∷ rows) =
     (after (at + count * size) rows) (apart (at + count * size) rows)
 
 -- no entry ends after the table does
-within : (at : ℕ) (rows : List Row) → All (λ placed. entry_end placed ≤ end_from at rows) (placed_from at rows)
+within : (at : ℕ) (rows : List ContextRow) → All (λ placed. entry_end placed ≤ end_from at rows) (placed_from at rows)
 within at [] = λ k d h. absurd (omega arith)
 within at (align to ∷ rows) = within (next_multiple_of at to) rows
 within at (entry description count size ∷ rows) =

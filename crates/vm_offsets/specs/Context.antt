@@ -8,12 +8,12 @@ use Rattle.vm_offsets.specs.declared.fields.VMOffsetsFields.{VMOffsetsFields}
 
 -- a row of the table: a step to the next multiple of a number; or an entry, with its description,
 -- the number of its elements and their size
-pub data Row : Type 0 where
-  align : (to : ℕ) → Row
-  entry : (description : List ℕ) → (count size : ℕ) → Row
+pub data ContextRow : Type 0 where
+  align : (to : ℕ) → ContextRow
+  entry : (description : List ℕ) → (count size : ℕ) → ContextRow
 
 -- the one table of the entries that depend on a module, at a size of pointers and the module's counts
-unfoldable pub context_table : {P : Type 0} → ℕ → VMOffsetsFields P → List Row
+unfoldable pub context_table : {P : Type 0} → ℕ → VMOffsetsFields P → List ContextRow
 context_table pointer c =
     entry (codes "imported memories") c.num_imported_memories (size_of memory_import pointer)
     ∷ entry (codes "defined memories") c.num_defined_memories pointer
@@ -45,7 +45,7 @@ abbrev pub entry_end : Placed → ℕ
 entry_end placed = placed.begin + placed.count * placed.stride
 
 -- the entries of a table that begins at a byte: each begins where the rows before it end
-abbrev pub placed_from : ℕ → List Row → List Placed
+abbrev pub placed_from : ℕ → List ContextRow → List Placed
 placed_from at [] = []
 placed_from at (align to ∷ rows) = placed_from (next_multiple_of at to) rows
 placed_from at (entry description count size ∷ rows) =
@@ -53,7 +53,7 @@ placed_from at (entry description count size ∷ rows) =
     ∷ placed_from (at + count * size) rows
 
 -- where such a table ends
-abbrev pub end_from : ℕ → List Row → ℕ
+abbrev pub end_from : ℕ → List ContextRow → ℕ
 end_from at [] = at
 end_from at (align to ∷ rows) = end_from (next_multiple_of at to) rows
 end_from at (entry description count size ∷ rows) = end_from (at + count * size) rows

@@ -9,7 +9,7 @@ ghost use Rattle.vm_offsets.specs.Layouts.{fields_of, pointer_of, entries_of, en
 
 use crate::arrays::ArrayOffsets;
 use crate::offsets::VMOffsets;
-use crate::table::{ENTRIES, Entry};
+use crate::table::{ContextEntry, ENTRIES};
 use vm_structs::PtrSize;
 use wasm_index::{
     DefinedGlobalIndex, DefinedMemoryIndex, DefinedTableIndex, DefinedTagIndex, FuncIndex,
@@ -48,7 +48,7 @@ pub(crate) const RUNTIME_DATA_LENGTHS: usize = 13;
 
 impl<P: PtrSize> VMOffsets<P> {
     // The entry at a position in the table.
-    pub(crate) fn entry(&self, place: usize) -> Entry
+    pub(crate) fn entry(&self, place: usize) -> ContextEntry
         requires { place < ENTRIES }
         ensures { option_map placed_extent (slice_get (entries_of self.now) place) ≡ Some (kept_extent result) }
     {

@@ -7,7 +7,7 @@ ghost use Rattle.vm_offsets.specs.Entries.{KeepsEntries};
 
 use crate::fields::VMOffsetsFields;
 use crate::overflow::OffsetOverflow;
-use crate::table::{ENTRIES, Entry, lay_out};
+use crate::table::{ContextEntry, ENTRIES, lay_out};
 use std::alloc::AllocError;
 use vm_structs::PtrSize;
 
@@ -15,7 +15,7 @@ use vm_structs::PtrSize;
 #[derive(Debug)]
 pub struct VMOffsets<P: PtrSize> {
     pub(crate) fields: VMOffsetsFields<P>,
-    pub(crate) entries: [Entry; ENTRIES],
+    pub(crate) entries: [ContextEntry; ENTRIES],
     pub(crate) size: u32,
     pub ghost pointer: { ∥ IsPointerSize (P.pointer_size fields.ptr) ∥₁ },
     pub ghost placed: { KeepsEntries entries (context_entries (P.pointer_size fields.ptr) fields) },

@@ -6,21 +6,21 @@ ghost use Rattle.vm_offsets.specs.Steps.{begin_at};
 
 /// A row of the table: elements of one size. They begin at a multiple of `align` where it is given.
 #[derive(Clone, Copy)]
-pub struct Row {
+pub struct SizedRow {
     pub align: Option<u8>,
     pub count: u32,
     pub size: u8,
     pub ghost positive: { ForSome align (λ to. 0 < to) },
 }
 
-impl Row {
+impl SizedRow {
     ghost use Rattle.vm_offsets.specs.Entries.{IsRow};
 
     /// Elements that begin where the row before ends.
     pub fn new(count: u32, size: u8) -> Self
         ensures { IsRow result None count size }
     {
-        Row {
+        SizedRow {
             align: None,
             count,
             size,
@@ -32,7 +32,7 @@ impl Row {
         requires { 0 < to }
         ensures { IsRow result (Some to) count size }
     {
-        Row {
+        SizedRow {
             align: Some(to),
             count,
             size,

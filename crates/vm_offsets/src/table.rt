@@ -7,7 +7,7 @@ ghost use Rattle.vm_offsets.specs.Entries.{without_texts, rows_of, KeepsEntries}
 
 use crate::fields::VMOffsetsFields;
 use crate::overflow::OffsetOverflow;
-use crate::row::Row;
+use crate::row::SizedRow;
 use vm_structs::offsets::{
     VMContext, VMFuncRef, VMFunctionImport, VMGlobalDefinition, VMGlobalImport, VMMemoryDefinition,
     VMMemoryImport, VMTableDefinition, VMTableImport, VMTagDefinition, VMTagImport,
@@ -18,7 +18,7 @@ pub(crate) const ENTRIES: usize = 14;
 
 /// An entry with its position.
 #[derive(Clone, Copy, Debug)]
-pub struct Entry {
+pub struct ContextEntry {
     pub begin: u32,
     pub stride: u32,
     pub count: u32,
@@ -26,47 +26,50 @@ pub struct Entry {
 
 // The table, at a size of pointers and counts.
 #[tactic(auto, unfolding(crate::specs::Context::context_table))]
-fn table<P>(pointer: u8, fields: &VMOffsetsFields<P>) -> [Row; ENTRIES]
+fn table<P>(pointer: u8, fields: &VMOffsetsFields<P>) -> [SizedRow; ENTRIES]
     requires { IsPointerSize pointer }
     ensures { rows_of result ≡ without_texts (context_table pointer fields.now) }
 {
     let func_ref = VMFuncRef(pointer).size();
     [
-        Row::new(fields.num_imported_memories, VMMemoryImport(pointer).size()),
-        Row::new(fields.num_defined_memories, pointer),
-        Row::new(
+        SizedRow::new(fields.num_imported_memories, VMMemoryImport(pointer).size()),
+        SizedRow::new(fields.num_defined_memories, pointer),
+        SizedRow::new(
             fields.num_owned_memories,
             VMMemoryDefinition(pointer).size(),
         ),
-        Row::new(
+        SizedRow::new(
             fields.num_imported_functions,
             VMFunctionImport(pointer).size(),
         ),
-        Row::new(fields.num_imported_tables, VMTableImport(pointer).size()),
-        Row::new(fields.num_imported_globals, VMGlobalImport(pointer).size()),
-        Row::new(fields.num_imported_tags, VMTagImport(pointer).size()),
-        Row::new(fields.num_defined_tables, VMTableDefinition(pointer).size()),
-        Row::aligned(
+        SizedRow::new(fields.num_imported_tables, VMTableImport(pointer).size()),
+        SizedRow::new(fields.num_imported_globals, VMGlobalImport(pointer).size()),
+        SizedRow::new(fields.num_imported_tags, VMTagImport(pointer).size()),
+        SizedRow::new(fields.num_defined_tables, VMTableDefinition(pointer).size()),
+        SizedRow::aligned(
             16,
             fields.num_defined_globals,
             VMGlobalDefinition(pointer).size(),
         ),
-        Row::new(fields.num_defined_tags, VMTagDefinition(pointer).size()),
-        Row::aligned(pointer, fields.num_escaped_funcs, func_ref),
-        Row::new(u32::from(fields.has_startup_func), func_ref),
-        Row::new(fields.num_runtime_data, pointer),
-        Row::new(fields.num_runtime_data, 4),
+        SizedRow::new(fields.num_defined_tags, VMTagDefinition(pointer).size()),
+        SizedRow::aligned(pointer, fields.num_escaped_funcs, func_ref),
+        SizedRow::new(u32::from(fields.has_startup_func), func_ref),
+        SizedRow::new(fields.num_runtime_data, pointer),
+        SizedRow::new(fields.num_runtime_data, 4),
     ]
 }
 
 // The entries of a table that begins at a byte, and where it ends.
-fn place(begin: u8, rows: &[Row; ENTRIES]) -> Result<([Entry; ENTRIES], u32), OffsetOverflow>
+fn place(
+    begin: u8,
+    rows: &[SizedRow; ENTRIES],
+) -> Result<([ContextEntry; ENTRIES], u32), OffsetOverflow>
     ensures entries { IfOk result (λ placed. KeepsEntries placed.0 (placed_from begin (rows_of rows.now))) }
     ensures size { IfOk result (λ placed. placed.1 ≡ end_from begin (rows_of rows.now)) }
     ensures fits { IfOk result (λ _. end_from begin (rows_of rows.now) ≤ u32.MAX) }
     ensures overflow { OnErr result (u32.MAX < end_from begin (rows_of rows.now)) }
 {
-    let mut entries = [Entry {
+    let mut entries = [ContextEntry {
         begin: 0,
         stride: 0,
         count: 0,
@@ -78,7 +81,7 @@ fn place(begin: u8, rows: &[Row; ENTRIES]) -> Result<([Entry; ENTRIES], u32), Of
         if end > u64::from(u32::MAX) {
             return Err(OffsetOverflow);
         }
-        entries[place] = Entry {
+        entries[place] = ContextEntry {
             begin: begin as u32,
             stride: u32::from(row.size),
             count: row.count,
@@ -91,7 +94,7 @@ fn place(begin: u8, rows: &[Row; ENTRIES]) -> Result<([Entry; ENTRIES], u32), Of
 pub(crate) fn lay_out<P>(
     pointer: u8,
     fields: &VMOffsetsFields<P>,
-) -> Result<([Entry; ENTRIES], u32), OffsetOverflow>
+) -> Result<([ContextEntry; ENTRIES], u32), OffsetOverflow>
     requires { IsPointerSize pointer }
     ensures entries { IfOk result (λ placed. KeepsEntries placed.0 (context_entries pointer fields.now)) }
     ensures size { IfOk result (λ placed. placed.1 ≡ context_size pointer fields.now) }

@@ -1,6 +1,6 @@
 //! The edges of heap, reference and value types.
 
-ghost use Rattle.wasm_spec.specs.TypeData.{Heap, Reference, Value};
+ghost use Rattle.wasm_spec.specs.TypeData.{Heap, Reference, ValueType};
 ghost use Rattle.type_spec.specs.TypeShapes.{heap_shape, reference_shape, value_shape};
 ghost use Rattle.type_spec.specs.Names.{Named, by_name};
 ghost use Rattle.wasm_types.specs.ValueViews.{heap_of, reference_of, value_of};
@@ -74,7 +74,7 @@ impl TypeTrace for WasmRefType {
 }
 
 impl TypeTrace for WasmValType {
-    ghost Data = { λ R. Value (Named R) };
+    ghost Data = { λ R. ValueType (Named R) };
 
     ghost shape = { by_name value_shape };
 

@@ -9,6 +9,6 @@ pub returns : goal.returns
 returns g c =
     let count = c.loop-section.count in
     let left = c.loop-section.section-iterator in
-    let none : count + length (flat_map g.T.Entry.of_section (sections_left left)) ≡ count =
-    omega (arith, ap (λ ps. length (flat_map g.T.Entry.of_section ps)) c.in-None.ensures.steps.0) in
+    let none : count + length (flat_map g.T.FormEntry.of_section (sections_left left)) ≡ count =
+    omega (arith, ap (λ ps. length (flat_map g.T.FormEntry.of_section ps)) c.in-None.ensures.steps.0) in
     sym (min-eq_left c.loop-section.invariant.0) ∙ sym (ap (λ n. min n 18446744073709551615) none) ∙ c.loop-section.invariant.1

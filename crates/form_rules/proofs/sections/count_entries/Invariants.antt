@@ -6,5 +6,5 @@ use Rattle.form_rules.proofs.sections.count_entries.Given as goal
 
 -- the entries of the remaining sections are still to be counted
 abbrev pub invariant-loop-section : goal.invariant-loop-section
-invariant-loop-section g l = (l.count ≤ 18446744073709551615) × (min (l.count + length (flat_map g.T.Entry.of_section (sections_left l.section-iterator))) 18446744073709551615
-    ≡ min (length (flat_map g.T.Entry.of_section (source_module l.source))) 18446744073709551615)
+invariant-loop-section g l = (l.count ≤ 18446744073709551615) × (min (l.count + length (flat_map g.T.FormEntry.of_section (sections_left l.section-iterator))) 18446744073709551615
+    ≡ min (length (flat_map g.T.FormEntry.of_section (source_module l.source))) 18446744073709551615)

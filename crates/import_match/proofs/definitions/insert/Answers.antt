@@ -3,7 +3,7 @@ use Rattle.std.specs.Prelude.{cond, is_some, filter}
 use Rattle.std.specs.BTreeMap.{is_at, insert_entry}
 use Rattle.std.specs.Map.{lookup}
 use Rattle.std.specs.Ordering.{is_eq}
-use Rattle.import_match.specs.contracts.names.NamesOrd.TheImpl as ordered
+use Rattle.import_match.specs.contracts.names.DefinitionNamesOrd.TheImpl as ordered
 use Rattle.wasm_types.specs.declared.entity.EntityType.{EntityType}
 use Rattle.import_match.specs.Kept.{in_order, is_below}
 use Rattle.std.proofs.lemmas.Bool.{le-ltb}

@@ -5,7 +5,7 @@ use Rattle.memory_images.proofs.fill.filled.Goals as goal
 pub laid-preserved : goal.laid-preserved
 laid-preserved c =
     let inv = c.laid.invariant in
-    let laid = c.lay.ensures in
+    let laid = c.write_segment.ensures in
     record {
       len = laid.len ∙ inv.len;
       filled = λ i l.

@@ -1,12 +1,12 @@
 use Rattle.std.proofs.Common.{◌+◌, take, get_or, []}
 use Rattle.std.proofs.lemmas.List.{take_all}
-use Rattle.memory_images.specs.declared.laid.Laid.{Laid}
+use Rattle.memory_images.specs.declared.placed_segment.PlacedSegment.{PlacedSegment}
 use Rattle.memory_images.specs.Contents.{contents_of}
 use Rattle.memory_images.proofs.Ends.{bounds_joined}
 use Rattle.memory_images.proofs.Filling.{contents_more}
 use Rattle.memory_images.proofs.span.outer_ends.Goals as goal
 
-abbrev no_bytes : Laid
+abbrev no_bytes : PlacedSegment
 no_bytes = record { start = 0; bytes = record { ref_ptr = (0, 0); now = [] } }
 
 pub laid-preserved : goal.laid-preserved

@@ -1,7 +1,7 @@
 use Rattle.std.proofs.Common.{◌∙◌, List, All, map, sym, ap, subst}
 use Rattle.std.specs.Global.{Vec}
 use Rattle.wasm_spec.specs.declared.types.UnpackedIndex.{UnpackedIndex}
-use Rattle.wasm_spec.specs.TypeData.{Value, value_edges, value_of, map_value}
+use Rattle.wasm_spec.specs.TypeData.{ValueType, value_edges, value_of, map_value}
 use Rattle.form_reader.specs.declared.types.SubType.{SubType}
 use Rattle.form_reader.specs.Views.{sub_type_of}
 use Rattle.form_types.proofs.AllOf.{All-from_map}
@@ -16,7 +16,7 @@ pub convert_types-requires : goal.convert_types-requires
 convert_types-requires g c =
     let knows = (goal.TypeConvert-dyn g c.args.env.now).knows c.args.env.now.1 in
     let known = subst (λ (ts : List SubType). All (KnowsParams knows) (map sub_type_of ts)) (sym c.deref-ty-items.ensures.value) c.requires in
-    let value : Value UnpackedIndex → Type 0 = λ v. Known knows (value_edges (λ i. i) v) in
+    let value : ValueType UnpackedIndex → Type 0 = λ v. Known knows (value_edges (λ i. i) v) in
     All-from_map value value_of c.kind_params.result.now (subst (All value) (sym c.kind_params.ensures)
     (at-item (KnowsParams knows) sub_type_of c.deref-ty-items.result.now c.loop-ty.ty-index c.ty-item.result c.loop-ty-test.true c.ty-item.is known))
 

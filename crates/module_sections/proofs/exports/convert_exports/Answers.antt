@@ -4,7 +4,7 @@ use Rattle.wasm_spec.specs.Module.{Export, exports_of_section}
 use Rattle.form_reader.specs.Views.{export_of}
 use Rattle.form_rules.specs.Sections.{entries_left}
 use Rattle.module_sections.specs.Escapes.{exported_function}
-use Rattle.module_sections.specs.Exported.{CanExport, entered, exported_functions}
+use Rattle.module_sections.specs.Exported.{HasExportableIndex, entered, exported_functions}
 use Rattle.module_sections.specs.EscapeLog.{EscapeLog}
 use Rattle.module_sections.proofs.Filling.{here_still, came_more, came_all, noted_more}
 use Rattle.module_sections.proofs.ExportsInTurn.{length-entered, length-names, entered-resolved, entered-pooled}
@@ -25,12 +25,12 @@ add_export-requires-clause-room c =
 
 pub add_export-requires-clause-in_range : goal.add_export-requires-clause-in_range
 add_export-requires-clause-in_range c =
-    (here_still _ _ (export_of c.in-Some.export.now) c.in-Some.ensures.steps CanExport _ _
+    (here_still _ _ (export_of c.in-Some.export.now) c.in-Some.ensures.steps HasExportableIndex _ _
     (ap (λ (f : EscapeLog). f.count) c.loop-export.invariant.noted) c.loop-export.invariant.in_range).index
 
 pub note_function-requires : goal.note_function-requires
 note_function-requires c =
-    here_still _ _ (export_of c.in-Some.export.now) c.in-Some.ensures.steps CanExport _ _
+    here_still _ _ (export_of c.in-Some.export.now) c.in-Some.ensures.steps HasExportableIndex _ _
     (ap (λ (f : EscapeLog). f.count) c.loop-export.invariant.noted) c.loop-export.invariant.in_range
 
 pub loop-export-preserved : goal.loop-export-preserved
@@ -41,7 +41,7 @@ loop-export-preserved c =
     let had = c.loop-export.invariant in
     let came = had.entered.0 in
     record {
-      in_range = All-rest (CanExport c.args.escaping.now.count) e _ _ at had.in_range;
+      in_range = All-rest (HasExportableIndex c.args.escaping.now.count) e _ _ at had.in_range;
       noted = noted_more c.loop-export.escaping c.note_function.new.escaping _ (exported_functions (e ∷ [])) _ _ c.in_ok-note_function.ensures
           (ap exported_functions at ∙ filter_map-append (λ (x : Export). exported_function x.kind x.index) (e ∷ []) rest) had.noted;
       entered = (came ++ e ∷ [], c.in_ok-add_export.ensures came had.entered.1, came_more _ _ e at came _ had.entered.2);

@@ -4,7 +4,7 @@ use Rattle.wasm_spec.specs.Module.{Export, exports_of_section}
 use Rattle.form_reader.specs.Views.{export_of}
 use Rattle.form_rules.specs.Source.{source_module}
 use Rattle.form_rules.specs.Sections.{entries_left}
-use Rattle.module_sections.specs.Exported.{CanExport, exported_functions, entered}
+use Rattle.module_sections.specs.Exported.{HasExportableIndex, exported_functions, entered}
 use Rattle.module_sections.specs.EscapeLog.{after_escapes}
 use Rattle.module_sections.proofs.exports.convert_exports.Given as goal
 
@@ -14,7 +14,7 @@ invariant-loop-export l =
     let all = flat_map exports_of_section (source_module l.source) in
     let exports = entries_left export_of exports_of_section l.export-iterator in
     record {
-      in_range : All (CanExport l.initial.escaping.count) exports;
+      in_range : All (HasExportableIndex l.initial.escaping.count) exports;
       noted : after_escapes l.escaping (exported_functions exports) ≡ after_escapes l.initial.escaping (exported_functions all);
       entered : (came : List Export) × (l.exports.entries ≡ entered came) × (came ++ exports ≡ all);
     }

@@ -2,7 +2,7 @@ use Rattle.std.proofs.Common.{◌++◌, ◌∷◌, [], List, length, ap, subst, 
 use Rattle.wasm_spec.specs.Module.{Import, imports_of_section}
 use Rattle.form_reader.specs.Views.{import_of}
 use Rattle.form_rules.specs.Sections.{entries_left}
-use Rattle.module_sections.specs.Imported.{AreImported}
+use Rattle.module_sections.specs.Imported.{BecomeInitializers}
 use Rattle.module_sections.proofs.Filling.{came_more, came_all}
 use Rattle.module_sections.proofs.ImportsInTurn.{counted-few, room-for-imports, imported-step}
 use Rattle.module_sections.proofs.imports.convert_imports.Goals as goal
@@ -33,6 +33,6 @@ loop-import-preserved c =
 pub returns : goal.returns
 returns c =
     let had = c.loop-import.invariant in
-    let all = subst (λ (is : List Import). AreImported c.args.strings.now is c.loop-import.strings c.loop-import.initializers.items c.loop-import.counts)
+    let all = subst (λ (is : List Import). BecomeInitializers c.args.strings.now is c.loop-import.strings c.loop-import.initializers.items c.loop-import.counts)
     (came_all had.0 _ _ c.in-None.ensures.steps.0 had.2) had.1 in
     record { imports = all.entities; counts = all.counted; pool = all.pool; pooled = all.pooled }

@@ -1,14 +1,14 @@
 use Rattle.std.proofs.Common.{ℕ, ◌-◌, ◌+◌, List, map, Some, None, refl, sym, subst, ◌∙◌, arith}
 use Rattle.custom_sections.specs.NameReading.{names_before, locals_before, vector_before}
 use Rattle.custom_sections.proofs.Before.{locals_none, local_step}
-use Rattle.name_maps.specs.Entries.{Entry, entry_of, entry_in, indirect_entries}
+use Rattle.name_maps.specs.Entries.{NameMapEntry, entry_of, entry_in, indirect_entries}
 use Rattle.name_maps.proofs.Adding.{Adds, no_count, at_start, more, ends, fails, is_done, indirect_push}
 use Rattle.name_maps.proofs.maps.add_indirect_map.Goals as goal
 
 abbrev One : Type 0
 One = ℕ × List (ℕ × List ℕ)
 
-abbrev in_one : ℕ → One → List Entry
+abbrev in_one : ℕ → One → List NameMapEntry
 in_one id x = map (entry_in id (Some x.0)) x.1
 
 pub returns-in_default-clause-added : goal.returns-in_default-clause-added
@@ -69,7 +69,7 @@ maps-preserved c =
     refl (rw c.in-Some-2.is at c.in_ok-after.ensures.left) in
     let now = more locals_before (indirect_entries id) old (in_one id) (indirect_push id) (map entry_of c.maps.entries.items)
     c.in-Some.count c.maps.counter c.maps.rest.now x c.in-Some-2.after.now _ c.maps-test.true read c.maps.invariant in
-    subst (λ (l : List Entry).
+    subst (λ (l : List NameMapEntry).
     Adds locals_before (indirect_entries id) old l (c.in-Some.count - (c.maps.counter + 1)) c.in-Some-2.after.now (vector_before locals_before c.args.bytes.now))
     (sym c.in_ok-after.ensures.added) now
 

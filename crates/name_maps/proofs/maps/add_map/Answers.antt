@@ -1,11 +1,11 @@
 use Rattle.std.proofs.Common.{ℕ, ◌-◌, ◌+◌, List, [], ◌∷◌, map, Option, refl, sym, subst, arith}
 use Rattle.custom_sections.specs.NameReading.{naming_before, names_before}
 use Rattle.custom_sections.proofs.Before.{naming_is, naming_none}
-use Rattle.name_maps.specs.Entries.{Entry, entry_of, entry_in}
+use Rattle.name_maps.specs.Entries.{NameMapEntry, entry_of, entry_in}
 use Rattle.name_maps.proofs.Adding.{Adds, no_count, at_start, more, fails, is_done, map_push, entry_pushed}
 use Rattle.name_maps.proofs.maps.add_map.Goals as goal
 
-abbrev in_map : ℕ → Option ℕ → List (ℕ × List ℕ) → List Entry
+abbrev in_map : ℕ → Option ℕ → List (ℕ × List ℕ) → List NameMapEntry
 in_map id outer names = map (entry_in id outer) names
 
 pub returns-in_default-clause-added : goal.returns-in_default-clause-added
@@ -45,7 +45,7 @@ names-preserved c =
     let pushed = entry_pushed c.names.entries.items c.push.new.self.items c.entry.result (entry_in id outer x) c.in_ok-push.ensures.items c.entry.ensures in
     let now = more naming_before (in_map id outer) old (λ y. entry_in id outer y ∷ []) (map_push id outer) (map entry_of c.names.entries.items) c.in-Some.count
     c.names.counter c.names.rest.now x c.in-Some-naming.after.now _ c.names-test.true read c.names.invariant in
-    subst (λ (l : List Entry).
+    subst (λ (l : List NameMapEntry).
     Adds naming_before (in_map id outer) old l (c.in-Some.count - (c.names.counter + 1)) c.in-Some-naming.after.now (names_before c.args.bytes.now)) (sym pushed) now
 
 pub returns-clause-added : goal.returns-clause-added

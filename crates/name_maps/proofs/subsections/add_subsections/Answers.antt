@@ -1,6 +1,6 @@
 use Rattle.std.proofs.Common.{◌-◌, ◌+◌, List, map, true, false, refl, sym, subst, ◌∙◌}
 use Rattle.custom_sections.specs.NameReading.{elements_before}
-use Rattle.name_maps.specs.Entries.{Entry, entry_of, all_entries}
+use Rattle.name_maps.specs.Entries.{NameMapEntry, entry_of, all_entries}
 use Rattle.name_maps.specs.Reading.{contents_read, subsection_before}
 use Rattle.name_maps.proofs.Adding.{Adds, begins, more, ends, fails, is_done, all_push}
 use Rattle.name_maps.proofs.Contents.{no_subsection, one_subsection}
@@ -31,7 +31,7 @@ subsections-preserved c =
     let now = more subsection_before all_entries old (λ x. x) all_push (map entry_of c.subsections.entries.items) c.args.most
     c.subsections.counter c.subsections.rest.now (contents_read c.in-Some.id c.in-Some.contents.now).0 c.in-Some.after.now _ c.subsections-test.true read
     c.subsections.invariant in
-    subst (λ (l : List Entry).
+    subst (λ (l : List NameMapEntry).
     Adds subsection_before all_entries old l (c.args.most - (c.subsections.counter + 1)) c.in-Some.after.now
     (elements_before subsection_before c.args.most c.args.bytes.now)) (sym c.in_ok-filled.ensures.added) now
 

@@ -3,7 +3,7 @@ use Rattle.form_reader.specs.Views.{payload_of, module_of}
 use Rattle.wasm_spec.specs.Module.{segments}
 use Rattle.segment_tables.specs.DataSegments.{data_told, HasSegments}
 use Rattle.segment_tables.specs.Elements.{HasElements}
-use Rattle.segment_tables.specs.References.{module_references, Listed}
+use Rattle.segment_tables.specs.References.{module_references, ListsOnce}
 use Rattle.segment_tables.specs.Tables.{elements, in_elements, module_expressions}
 use Rattle.segment_tables.proofs.tables.segment_tables.Goals as goal
 
@@ -21,6 +21,6 @@ returns c =
       element_segments = c.leak-2.ensures.value ∙ of_elements.rows;
       functions = c.leak-3.ensures.value ∙ of_elements.functions;
       expressions = c.expressions_record.ensures (module_expressions m) of_segments.expressions;
-      references = subst (Listed (module_references m)) (sym c.leak-4.ensures.value)
-          (subst (λ ps. Listed (module_references (map payload_of ps)) c.in_ok-references.references.items) sections c.in_ok-references.ensures);
+      references = subst (ListsOnce (module_references m)) (sym c.leak-4.ensures.value)
+          (subst (λ ps. ListsOnce (module_references (map payload_of ps)) c.in_ok-references.references.items) sections c.in_ok-references.ensures);
     }

@@ -1,7 +1,7 @@
 use Rattle.std.proofs.Common.{[], ◌∙◌, length, map, ap, sym, subst, arith}
 use Rattle.std.proofs.lemmas.List.{length-map}
 use Rattle.segment_tables.specs.DataSegments.{data_told}
-use Rattle.segment_tables.specs.References.{Listed}
+use Rattle.segment_tables.specs.References.{ListsOnce}
 use Rattle.segment_tables.proofs.worked.worked_tables.Goals as goal
 
 pub returns-clause-empty : goal.returns-clause-empty
@@ -10,7 +10,7 @@ returns-clause-empty c = λ r segments elements functions parts operators refere
   element_segments = elements;
   functions = functions;
   expressions = record { parts = parts; operators = operators };
-  references = subst (Listed []) (sym references) (record { ascend = λ i j lt in'. omega (arith, in'); exact = λ k. (λ h. h, λ h. h) });
+  references = subst (ListsOnce []) (sym references) (record { ascend = λ i j lt in'. omega (arith, in'); exact = λ k. (λ h. h, λ h. h) });
 }
 
 pub returns-clause-one : goal.returns-clause-one

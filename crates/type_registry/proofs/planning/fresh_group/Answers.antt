@@ -2,7 +2,7 @@ use Rattle.std.proofs.Common.{arith, ◌≡◌, ◌∙◌, ◌++◌, length, map
 use Rattle.std.proofs.lemmas.List.{length-map, length-take-le}
 use Rattle.wasm_spec.specs.TypeData.{map_group}
 use Rattle.type_spec.specs.Names.{named}
-use Rattle.type_spec.specs.Interned.{Span}
+use Rattle.type_spec.specs.Interned.{GroupSpan}
 use Rattle.wasm_index.specs.Index.{number_of}
 use Rattle.wasm_types.specs.TypeViews.{group_of}
 use Rattle.wasm_trace.specs.Canonical.{runtime_edge}
@@ -14,7 +14,7 @@ use Rattle.type_registry.proofs.planning.fresh_group.Goals as goal
 pub invariant_of-kept : goal.invariant_of-kept
 invariant_of-kept c =
     let l = c.args.source.types.now in
-    let s : Span = record { start = c.args.start; end = c.args.end } in
+    let s : GroupSpan = record { start = c.args.start; end = c.args.end } in
     let all = map number_of c.args.given.now in
     let before = take c.args.start all in
     let new = map number_of c.args.indices.items in

@@ -1,5 +1,5 @@
 use Rattle.std.proofs.Common.{arith, rules, ◌≡◌, ◌<◌, ◌∷◌, [], length, sym, ap, subst}
-use Rattle.type_spec.specs.Interned.{Span}
+use Rattle.type_spec.specs.Interned.{GroupSpan}
 use Rattle.module_types.specs.Views.{span_of}
 use Rattle.type_registry.specs.Registry.{indices_of}
 use Rattle.type_registry.specs.Changes.{Plan, plan_group}
@@ -16,7 +16,7 @@ loop-group-preserved c =
     let l = c.args.source.types.now in
     let gs = c.args.source.groups.now.groups in
     let i = c.loop-group.invariant in
-    let s : Span = span_of c.in-Some.range in
+    let s : GroupSpan = span_of c.in-Some.range in
     let old = plan c.loop-group.listed c.loop-group.fresh in
     let first : spans_left c.loop-group._group-iterator ≡ s ∷ spans_left c.next.new.self = ap spans_left c.in-Some.ensures.steps in
     let step : plan c.take_group.new.listed c.take_group.new.fresh ≡ plan_group gs l old s =
@@ -33,7 +33,7 @@ pub returns-in_err-take_group-clause-full : goal.returns-in_err-take_group-claus
 returns-in_err-take_group-clause-full c = λ is.
     let l = c.args.source.types.now in
     let gs = c.args.source.groups.now.groups in
-    let s : Span = span_of c.in-Some.range in
+    let s : GroupSpan = span_of c.in-Some.range in
     let old = plan c.loop-group.listed c.loop-group.fresh in
     let first : spans_left c.loop-group._group-iterator ≡ s ∷ spans_left c.next.new.self = ap spans_left c.in-Some.ensures.steps in
     let full : c.args.source.room < length (indices_of (plan_group gs l old (record { start = c.as_u32-start.result; end = c.as_u32-end.result })).fresh) = search rules in

@@ -1,7 +1,7 @@
 use Rattle.std.proofs.Common.{arith, ◌≡◌, ◌∙◌, ◌++◌, ◌-◌, length, map, Some, None, sym, ap}
 use Rattle.std.proofs.lemmas.List.{length-append}
 use Rattle.std.specs.Option.{option_copied}
-use Rattle.type_spec.specs.Interned.{Span}
+use Rattle.type_spec.specs.Interned.{GroupSpan}
 use Rattle.wasm_index.specs.Index.{number_of}
 use Rattle.wasm_trace.specs.Canonical.{consed_edge}
 use Rattle.wasm_types.specs.TypeViews.{group_of}
@@ -12,7 +12,7 @@ use Rattle.type_registry.proofs.PlanGroups.{mapped-long, found-equal, known-grou
 use Rattle.type_registry.proofs.planning.take_group.Goals.{In_ok-canonical, In-Some, In_default}
 use Rattle.type_registry.proofs.planning.take_group.Goals as goal
 
-abbrev span : In_ok-canonical → Span
+abbrev span : In_ok-canonical → GroupSpan
 span c = record { start = c.args.start; end = c.args.end }
 
 given : (c : In_ok-canonical) → map number_of c.deref.result.now ≡ c.args.listed.now.indices

@@ -1,6 +1,6 @@
 use Rattle.std.proofs.Common.{arith, ◌≡◌, ◌∙◌, ◌++◌, ◌-◌, length, map, take, sym, ap}
 use Rattle.std.proofs.lemmas.List.{length-map, length-append, take-append-le, take_all}
-use Rattle.type_spec.specs.Interned.{Span}
+use Rattle.type_spec.specs.Interned.{GroupSpan}
 use Rattle.wasm_index.specs.Index.{number_of}
 use Rattle.type_registry.specs.Registry.{Module}
 use Rattle.type_registry.specs.Changes.{canonical_data}
@@ -29,7 +29,7 @@ fresh_group-requires-clause-long c =
 
 pub fresh_group-requires-clause-canonical : goal.fresh_group-requires-clause-canonical
 fresh_group-requires-clause-canonical c =
-    let s : Span = record { start = c.args.start; end = c.args.end } in
+    let s : GroupSpan = record { start = c.args.start; end = c.args.end } in
     let old = c.args.listed.now.indices in
     c.requires.canonical
     ∙ ap (λ is. canonical_data c.args.source.types.now is s) (sym (ap (take c.args.start) (whole (goal.at.fresh_group-requires-clause-canonical c).After-deref-2)

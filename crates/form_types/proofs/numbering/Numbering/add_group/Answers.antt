@@ -7,7 +7,7 @@ use Rattle.form_reader.specs.Views.{group_of, sub_type_of}
 use Rattle.form_types.specs.EarlierTypes.{ids_of}
 use Rattle.form_types.specs.Placed.{placed, named_index}
 use Rattle.form_types.specs.Finding.{next_key, first_of}
-use Rattle.form_types.specs.Distinct.{IsListed}
+use Rattle.form_types.specs.Distinct.{KeepsGroups}
 use Rattle.form_types.specs.Adding.{AddsBy}
 use Rattle.form_types.proofs.numbering.Numbering.add_group.Goals as goal
 
@@ -43,7 +43,7 @@ returns-in_ok-push-in-None-clause-adds c =
       key_is = c.name_key.ensures.key g c.requires.read ∙ (λ k. next_key (ids_of (c.deref.ensures.value k)) (placed g));
       adds = subst (λ o. AddsBy c.args.self.now (record c.args.self.now { first_ids = c.find_or_note.new.first_ids; distinct = c.push.new.self; key = key; declared = c.push_row-in-None.new.ids }) g key o) found (record {
         ids = c.in_ok-push_row-in-None.ensures ∙ ap (λ n. ids_of c.args.self.now.declared.items ++ range_with_len c.args.self.now.distinct.next n) long;
-        listed = subst (λ x. IsListed c.push.new.self (map group_of c.args.self.now.distinct.groups.items ++ x ∷ [])) named c.in_ok-push-in-None.ensures;
+        listed = subst (λ x. KeepsGroups c.push.new.self (map group_of c.args.self.now.distinct.groups.items ++ x ∷ [])) named c.in_ok-push-in-None.ensures;
         met = rw c.in-None.is at c.in_ok-first.ensures.noted;
       });
     }

@@ -3,7 +3,7 @@ use Rattle.std.specs.Prelude.{OnErr, is_err, filter}
 use Rattle.std.proofs.lemmas.Map.Made.{filter_same_pairs}
 use Rattle.std.proofs.lemmas.Result.{on_err_weaker}
 use Rattle.import_match.specs.Definitions.{AreOnce}
-use Rattle.import_match.specs.Kept.{in_order, is_below, AreKept}
+use Rattle.import_match.specs.Kept.{in_order, is_below, DefinitionsAreKept}
 use Rattle.import_match.proofs.definitions.Definitions.append_all.Goals as goal
 
 on-err : {T E P : Type 0} (r : Result T E) → is_err r ≡ true → OnErr r P → P
@@ -19,7 +19,7 @@ restored c =
     ∙ on-err c.insert_all-inserted.result (sym c.if-is_err.ensures.value) c.insert_all-inserted.ensures.err
 
 pub invariant_of-self : goal.invariant_of-self
-invariant_of-self c = subst AreKept (sym (restored c)) c.self.invariant
+invariant_of-self c = subst DefinitionsAreKept (sym (restored c)) c.self.invariant
 
 pub returns-then-is_err-clause-err : goal.returns-then-is_err-clause-err
 returns-then-is_err-clause-err c =

@@ -16,7 +16,7 @@ use Rattle.module_types.specs.Interner.{built, known, FindsMapped, IsTrampoline}
 use Rattle.module_types.specs.declared.interner.Interner.{Interner}
 use Rattle.module_types.specs.declared.interner.Trampoline.TheVariants.{Itself}
 use Rattle.module_types.specs.declared.mapped_types.MappedTypes.{MappedTypes}
-use Rattle.module_types.specs.MappedTypes.{mapped_at, digest_of, IsLinked, IsNoted}
+use Rattle.module_types.specs.MappedTypes.{mapped_at, digest_of, AreFoundByDigest, IsNoted}
 use Rattle.module_types.proofs.Keys.{equal, called-mapped, trampoline-twice}
 use Rattle.module_types.proofs.Steps.{composite-read, assign_trampoline-other, known-before, known-itself, known-next, new-long}
 use Rattle.module_types.proofs.interner.Interner.assign_trampoline.Goals as goal
@@ -38,13 +38,13 @@ returns-in-Known-clause-found c = grind (arith, common_steps)
 -- a type that is its own mapped type is recorded at its index
 module _ (i : Interner) (found : FindsMapped i) (ty : TypeIndex) (x : WasmSubType) (read : slice_get i.list.types (number_of ty) ≡ Some x) (f : WasmFuncType)
     (is : x.composite_type.inner ≡ inner.Func f) (digest : ℕ) (own : IsTrampoline (known i) i.mapped_types.hasher f (Itself digest)) (l : TypeList) (set : l ≡ called_by i.list (number_of ty) ty)
-    (met : MappedTypes) (noted : (ts : List WasmSubType) (g : WasmFuncType) → IsLinked ts i.mapped_types → part_at func_in ts ty ≡ Some g → digest ≡ digest_of i.mapped_types.hasher g → IsNoted ts i.mapped_types met g ty) where
+    (met : MappedTypes) (noted : (ts : List WasmSubType) (g : WasmFuncType) → AreFoundByDigest ts i.mapped_types → part_at func_in ts ty ≡ Some g → digest ≡ digest_of i.mapped_types.hasher g → IsNoted ts i.mapped_types met g ty) where
   is-noted : IsNoted i.list.types i.mapped_types met (trampoline_of f) ty
   is-noted = noted i.list.types (trampoline_of f) found
       (ap (option_and_then (λ (t : WasmSubType). func_in t.composite_type.inner)) read ∙ ap func_in is ∙ ap Some (sym own.2)) own.1
 
   pub finds-itself : FindsMapped (record { list = l; mapped_types = met })
-  finds-itself = coe 0 1 (j. IsLinked (sym (ap (λ (m : TypeList). m.types) set) j) met) is-noted.linked
+  finds-itself = coe 0 1 (j. AreFoundByDigest (sym (ap (λ (m : TypeList). m.types) set) j) met) is-noted.linked
 
   pub gains-itself : built (record { list = l; mapped_types = met }) ≡ assign_trampoline (built i) (number_of ty) (composite_at (built i).types (number_of ty))
   gains-itself =

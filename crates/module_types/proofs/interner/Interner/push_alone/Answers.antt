@@ -7,7 +7,7 @@ use Rattle.module_types.specs.TypeList.{TypeList, with_type, with_range}
 use Rattle.module_types.specs.Held.{built_of}
 use Rattle.module_types.specs.Orderly.{IsOrderly}
 use Rattle.module_types.specs.Interner.{known, built}
-use Rattle.module_types.specs.MappedTypes.{mapped_at, IsLinked}
+use Rattle.module_types.specs.MappedTypes.{mapped_at, AreFoundByDigest}
 use Rattle.module_types.proofs.GroupMembers.{few-groups, orderly-more}
 use Rattle.module_types.proofs.Chaining.{known-on, linked-on}
 use Rattle.module_types.proofs.Steps.{alone-is}
@@ -38,5 +38,5 @@ returns-clause-sound c =
     let i = c.args.self.now in
     record {
       orderly = coe 0 1 (j. IsOrderly (sym (returns-clause-built c) j)) (orderly-more (built i) (interned_of c.args.ty) [] c.requires.sound.orderly);
-      found = coe 0 1 (j. IsLinked (sym (returns-clause-types c) j) i.mapped_types) (linked-on i.list.types (c.args.ty ∷ []) i.mapped_types c.requires.sound.found);
+      found = coe 0 1 (j. AreFoundByDigest (sym (returns-clause-types c) j) i.mapped_types) (linked-on i.list.types (c.args.ty ∷ []) i.mapped_types c.requires.sound.found);
     }

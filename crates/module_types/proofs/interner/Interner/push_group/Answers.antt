@@ -10,7 +10,7 @@ use Rattle.wasm_spec.specs.TypeData.{SubType, map_sub_type, sub_type_edges}
 use Rattle.type_spec.specs.Interned.{Interned, Built, assign_trampolines, opened, with_group}
 use Rattle.form_reader.specs.declared.types.SubType.{SubType as Read}
 use Rattle.form_reader.specs.Views as form
-use Rattle.form_types.specs.Types.{TypesData, IsSound}
+use Rattle.form_types.specs.Types.{TypesData, TypesAreSound}
 use Rattle.wasm_spec.specs.declared.types.UnpackedIndex.{UnpackedIndex}
 use Rattle.wasm_types.specs.declared.sub.WasmSubType.{WasmSubType}
 use Rattle.wasm_convert.specs.Conversion.{index_in}
@@ -26,7 +26,7 @@ use Rattle.module_types.specs.InTurn.{CanIntern}
 use Rattle.module_types.specs.Held.{built_of}
 use Rattle.module_types.specs.declared.interner.Interner.{Interner}
 use Rattle.module_types.specs.Interner.{known, built, holding, FindsMapped}
-use Rattle.module_types.specs.MappedTypes.{mapped_at, IsLinked}
+use Rattle.module_types.specs.MappedTypes.{mapped_at, AreFoundByDigest}
 use Rattle.module_types.specs.Listed.{IsUnshared, MayBeListed}
 use Rattle.module_types.proofs.NamedGroups.{group-listed}
 use Rattle.module_types.proofs.Chaining.{known-on, linked-on}
@@ -71,7 +71,7 @@ module _ (i : Interner) (ids : List (Option ℕ)) (t : TypesData) (k : ℕ) (mem
     long : length i.list.types + length members < 4294967295
     long = omega (arith, room, group-long (built i) (interned_members t b k), length-map i.list.types interned_of, count)
 
-    each-known : IsSound t → All (λ m. Known (KnowsId t (length i.list.types) (map span_of i.list.groups) (noted_at ids)) (sub_type_edges (λ i. i) (form.sub_type_of m))) members
+    each-known : TypesAreSound t → All (λ m. Known (KnowsId t (length i.list.types) (map span_of i.list.groups) (noted_at ids)) (sub_type_edges (λ i. i) (form.sub_type_of m))) members
     each-known sound =
         members-known t (length i.list.types) (map span_of i.list.groups) (noted_at ids) k (λ m j held. (can.holds m j held).stands)
         (λ none. omega (arith, long, ap length are, length-map members form.sub_type_of)) sound can.named members are
@@ -90,7 +90,7 @@ module _ (i now : Interner) {ts : List Interned} {n : ℕ} (g : Grown i now ts n
     listed = pushed ∙ ap (λ (s : Interner). with_range s.list range) g.is
 
     found-now : FindsMapped (record now { list = l })
-    found-now = coe 0 1 (j. IsLinked (sym listed j).types (sym g.is j).mapped_types) (linked-on i.list.types g.more i.mapped_types found)
+    found-now = coe 0 1 (j. AreFoundByDigest (sym listed j).types (sym g.is j).mapped_types) (linked-on i.list.types g.more i.mapped_types found)
 
     module _ (start : range.start ≡ index_of (length i.list.types)) (end : range.end ≡ index_of (length now.list.types)) (past : length ts ≤ n)
         (b : Built) (seeded : b ≡ built (record now { list = l })) where

@@ -16,7 +16,7 @@ use Rattle.module_types.specs.TypeList.{TypeList, called_by}
 use Rattle.module_types.specs.TypeParts.{part_at}
 use Rattle.module_types.specs.Held.{built_of}
 use Rattle.module_types.specs.Interner.{known, built, with_next_trampoline, FindsMapped}
-use Rattle.module_types.specs.MappedTypes.{mapped_at, digest_of, IsLinked, IsNoted}
+use Rattle.module_types.specs.MappedTypes.{mapped_at, digest_of, AreFoundByDigest, IsNoted}
 use Rattle.module_types.proofs.Chaining.{part-at-end}
 use Rattle.module_types.proofs.Steps.{next-is, noted-is}
 use Rattle.module_types.proofs.interner.Interner.push_trampoline.Goals as goal
@@ -31,7 +31,7 @@ module _ (i now : Interner) (met : MappedTypes) (ty : ℕ) (k : TypeIndex) (mapp
     (t : WasmSubType) (plain_is : interned_of t ≡ plain (Func (called_of mapped))) (func_is : func_in t.composite_type.inner ≡ Some mapped)
     (pushed : built now ≡ alone (built_of l (mapped_at l.types i.mapped_types)) (interned_of t) (Some (number_of k))) (found : FindsMapped now)
     (types : now.list.types ≡ l.types ++ t ∷ []) (met_is : now.mapped_types ≡ i.mapped_types)
-    (noted : (ts : List WasmSubType) (f : WasmFuncType) → IsLinked ts now.mapped_types → part_at func_in ts k ≡ Some f → digest ≡ digest_of now.mapped_types.hasher f → IsNoted ts now.mapped_types met f k) where
+    (noted : (ts : List WasmSubType) (f : WasmFuncType) → AreFoundByDigest ts now.mapped_types → part_at func_in ts k ≡ Some f → digest ≡ digest_of now.mapped_types.hasher f → IsNoted ts now.mapped_types met f k) where
   end : number_of k ≡ length l.types
   end = ap number_of count ∙ sym (ap (λ (m : TypeList). length m.types) set)
 

@@ -12,12 +12,12 @@ use Rattle.wasm_types.specs.Views.{func_in}
 use Rattle.module_types.specs.TypeParts.{part_at}
 use Rattle.module_types.specs.declared.mapped_types.MappedType.{MappedType}
 use Rattle.module_types.specs.declared.mapped_types.MappedTypes.{MappedTypes}
-use Rattle.module_types.specs.MappedTypes.{MappedKey, digest_of, newest_of, mapped_key_of, mapped_keys, mapped_at, Leads, IsLinked}
+use Rattle.module_types.specs.MappedTypes.{MappedKey, digest_of, newest_of, mapped_key_of, mapped_keys, mapped_at, Leads, AreFoundByDigest}
 use Rattle.module_types.proofs.Chaining.{at-map, in-range, found-there, steps-back, key-read, part-below}
 use Rattle.module_types.proofs.mapped_types.MappedTypes.find.Goals as goal
 
 -- one of a chain, which was read
-module _ {types : List WasmSubType} {m : MappedTypes} (linked : IsLinked types m) (f : WasmFuncType) (left : ℕ)
+module _ {types : List WasmSubType} {m : MappedTypes} (linked : AreFoundByDigest types m) (f : WasmFuncType) (left : ℕ)
     (leads : Leads (digest_of m.hasher) (mapped_keys types m.types.items) f left (length (mapped_keys types m.types.items))) (some : 0 < left)
     {e : MappedType} (at : e ≡ get_or m.types.items (left - 1) e) where
   abbrev rs : List MappedKey

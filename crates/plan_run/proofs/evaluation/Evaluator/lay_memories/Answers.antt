@@ -2,7 +2,7 @@ use Rattle.std.proofs.Common.{◌≡◌, ◌∙◌, [], inl, length, sym, arith}
 use Rattle.std.proofs.lemmas.List.{length-map}
 use Rattle.init_plan.specs.Views.{memory_plan_of}
 use Rattle.paged_memory.specs.Memory.{Contents}
-use Rattle.plan_run.specs.Evaluation.{place_of}
+use Rattle.plan_run.specs.Evaluation.{offset_position}
 use Rattle.plan_run.specs.Limits.{own_memories}
 use Rattle.plan_run.specs.Memories.{bytes_in, plan_phase}
 use Rattle.plan_run.specs.Segments.{left_pieces}
@@ -20,7 +20,7 @@ pub write_pieces-requires : goal.write_pieces-requires
 write_pieces-requires c =
     let t = c.args.self.now.translation.now in
     let plan = memory_plan_of t in
-    let place = place_of c.args.self.now in
+    let place = offset_position c.args.self.now in
     let n = length c.in_ok-memories.memories.items in
     let many = memory-count t c.args.way c.args.imported.items c.in_ok-memories.memories.items c.requires.finished.memories.imports c.requires.imports c.in_ok-memories.ensures in
     data-below n (left_pieces c.args.way place plan plan.segments) c.deref.result.now
@@ -30,7 +30,7 @@ pub returns-clause-laid : goal.returns-clause-laid
 returns-clause-laid c =
     let t = c.args.self.now.translation.now in
     let plan = memory_plan_of t in
-    let place = place_of c.args.self.now in
+    let place = offset_position c.args.self.now in
     let imported = c.args.imported.items in
     let memories = c.in_ok-memories.memories.items in
     let many = memory-count t c.args.way imported memories c.requires.finished.memories.imports c.requires.imports c.in_ok-memories.ensures in
@@ -42,7 +42,7 @@ pub returns-clause-lent : goal.returns-clause-lent
 returns-clause-lent c =
     let t = c.args.self.now.translation.now in
     let plan = memory_plan_of t in
-    let place = place_of c.args.self.now in
+    let place = offset_position c.args.self.now in
     let imported = c.args.imported.items in
     let memories = c.in_ok-memories.memories.items in
     let new = c.write_pieces.new.memories.items in
@@ -58,7 +58,7 @@ pub returns-clause-shared : goal.returns-clause-shared
 returns-clause-shared c =
     let t = c.args.self.now.translation.now in
     let plan = memory_plan_of t in
-    let place = place_of c.args.self.now in
+    let place = offset_position c.args.self.now in
     let imported = c.args.imported.items in
     let memories = c.in_ok-memories.memories.items in
     let new = c.write_pieces.new.memories.items in

@@ -1,6 +1,6 @@
 use Rattle.std.proofs.Common.{◌≡◌, length, vec_len, refl, arith}
 use Rattle.memory_images.proofs.Filling.{over, beside}
-use Rattle.memory_images.proofs.fill.lay.Goals as goal
+use Rattle.memory_images.proofs.fill.write_segment.Goals as goal
 
 pub returns-then-from-to-clause-bytes : goal.returns-then-from-to-clause-bytes
 returns-then-from-to-clause-bytes c =

@@ -2,7 +2,7 @@ use Rattle.std.proofs.Common.{◌≤◌, arith, true, false, map}
 use Rattle.custom_sections.specs.Views.{text_of, locals_of, names_of}
 use Rattle.custom_sections.specs.NameReading.{names_before, locals_before, vector_before}
 use Rattle.custom_sections.proofs.Subsections.{no_module, one_module, functions_are, locals_are, locals_skipped, skipped, nothing, with_module, with_functions, with_locals}
-use Rattle.custom_sections.proofs.names.Names.add.Goals as goal
+use Rattle.custom_sections.proofs.names.SectionNames.add.Goals as goal
 
 pub returns-in_default-whole_name-clause-added : goal.returns-in_default-whole_name-clause-added
 returns-in_default-whole_name-clause-added c =

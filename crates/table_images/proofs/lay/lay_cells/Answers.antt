@@ -5,7 +5,7 @@ use Rattle.replay_spec.specs.Tables.{image_cells}
 use Rattle.table_images.specs.Views.{cell_of, image_of, items_of}
 use Rattle.table_images.proofs.CellsStand.{length-cells}
 use Rattle.table_images.proofs.Laying.{lays-grown}
-use Rattle.table_images.proofs.lay.lay.Goals as goal
+use Rattle.table_images.proofs.lay.lay_cells.Goals as goal
 
 pub returns : goal.returns
 returns c =

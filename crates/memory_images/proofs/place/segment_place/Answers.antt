@@ -4,7 +4,7 @@ use Rattle.std.proofs.lemmas.Option.{slice_get-get_or}
 use Rattle.wasm_convert.specs.Constants.{plain_value_of}
 use Rattle.memory_images.specs.Views.{active_segment_of}
 use Rattle.memory_images.proofs.Placing.{placed, past_end}
-use Rattle.memory_images.proofs.place.place_of.Goals as goal
+use Rattle.memory_images.proofs.place.segment_place.Goals as goal
 
 pub returns-then-end-size-clause-some : goal.returns-then-end-size-clause-some
 returns-then-end-size-clause-some c =
