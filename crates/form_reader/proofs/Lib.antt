@@ -3,7 +3,7 @@ pub mod ContentLaws
 pub mod CustomRuns
 pub mod Digits
 pub mod Entries
-pub mod GroupTakers
+pub mod HeldGroups
 pub mod Listed
 pub mod Loop
 pub mod NameLaws

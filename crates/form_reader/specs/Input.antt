@@ -66,13 +66,13 @@ sections_of_part (parts.Section section) = input_section_of section ∷ []
 abbrev pub input_module_of : InputForm → plain.Module
 input_module_of form = flat_map sections_of_part form.parts.items
 
--- a taker took some groups of types, or none
-abbrev pub HasTaken : {T : Type 0} → (T → List (Group UnpackedIndex UnpackedIndex) → Type 0) → T → Type 0
-HasTaken took taker = (groups : List (Group UnpackedIndex UnpackedIndex)) × took taker groups
+-- a sink holds some groups of types, or none
+abbrev pub HasGroups : {T : Type 0} → (T → List (Group UnpackedIndex UnpackedIndex) → Type 0) → T → Type 0
+HasGroups holds sink = (groups : List (Group UnpackedIndex UnpackedIndex)) × holds sink groups
 
--- a taker that took some groups of types takes these as well, one after another
-abbrev pub TakesGroups : {T : Type 0} → (T → List (Group UnpackedIndex UnpackedIndex) → Type 0) → T → T → List (Group UnpackedIndex UnpackedIndex) → Type 0
-TakesGroups took old new groups = (before : List (Group UnpackedIndex UnpackedIndex)) → took old before → took new (before ++ groups)
+-- a sink that holds some groups of types holds these as well, after them
+abbrev pub AddsGroups : {T : Type 0} → (T → List (Group UnpackedIndex UnpackedIndex) → Type 0) → T → T → List (Group UnpackedIndex UnpackedIndex) → Type 0
+AddsGroups holds old new groups = (before : List (Group UnpackedIndex UnpackedIndex)) → holds old before → holds new (before ++ groups)
 
 -- the first of some entries is removed and the others remain, or there is none
 abbrev pub Takes : {A : Type 0} → List A → A → List A → Bool → Type 0

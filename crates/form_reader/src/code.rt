@@ -18,7 +18,7 @@ use wasm_spec::ValType;
 impl<'d> Entry<'d> for (u32, ValType) {
     type Value = (u32, ValType);
 
-    ghost Seen = { ℕ × declared.ValType };
+    ghost Data = { ℕ × declared.ValType };
 
     ghost form = { locals_run.read };
 
@@ -35,7 +35,7 @@ impl<'d> Entry<'d> for (u32, ValType) {
 impl<'d> Entry<'d> for FunctionBody<'d> {
     type Value = FunctionBody<'d>;
 
-    ghost Seen = { plain.Body };
+    ghost Data = { plain.Body };
 
     ghost form = { body.read };
 

@@ -4,7 +4,7 @@ ghost use Rattle.std.specs.Prelude.{◌≡◌, ◌+◌, ◌<◌, ◌^◌, [], �
 ghost use Rattle.wasm_spec.specs.Grammar.{order_of as spec_order_of, section_id as spec_section_id, next_order as spec_next_order};
 ghost use Rattle.wasm_spec.specs.Module as plain;
 ghost use Rattle.form_reader.specs.Views.{payload_of};
-ghost use Rattle.form_reader.specs.Input.{input_payload_of, input_section_of, HasTaken, TakesGroups};
+ghost use Rattle.form_reader.specs.Input.{input_payload_of, input_section_of, HasGroups, AddsGroups};
 ghost use Rattle.form_reader.specs.Reading.{Reads, whole};
 ghost use Rattle.form_reader.specs.ReadingNumbers.{unsigned_at, sized_at};
 ghost use Rattle.form_reader.specs.SectionRows.{section_contents};
@@ -12,7 +12,7 @@ ghost use Rattle.form_reader.specs.SectionRows.{section_contents};
 use crate::cursor::Cursor;
 use crate::customs::CUSTOM;
 use crate::error::ReadError;
-use crate::group_takers::TakeGroups;
+use crate::group_sink::GroupSink;
 use crate::input::InputEntries::{self, Elements, Functions, Globals, Segments, Tags, Types};
 use crate::input::InputSection::{self, Input, Read};
 use crate::type_indices::{DefinedFunction, DefinedTag};
@@ -100,23 +100,23 @@ impl<'d> Cursor<'d> {
         Ok(number)
     }
 
-    /// What follows the id of a non-custom section that is at the offset `place`. `taker` takes the
+    /// What follows the id of a non-custom section that is at the offset `place`. `sink` takes the
     /// groups of a type section.
     #[tactic(auto, unfolding(crate::specs::SectionRows::section_contents))]
-    pub fn section_contents<T: TakeGroups>(
+    pub fn section_contents<T: GroupSink>(
         &mut self,
         alloc: Global,
         place: usize,
         id: u8,
-        taker: &mut T,
+        sink: &mut T,
     ) -> Result<InputSection<'d>, ReadError>
         requires small { place + length self.now.rest.now < 2 ^ 30 }
-        requires taking { HasTaken T.took taker.old }
+        requires taking { HasGroups T.holds sink.old }
         ensures reads { Reads (section_contents place id).read input_section_of self.old.rest.now self.new.rest.now result }
-        ensures takes { IfOk result (λ section. TakesGroups T.took taker.old taker.new (plain.groups (input_section_of section ∷ []))) }
+        ensures takes { IfOk result (λ section. AddsGroups T.holds sink.old sink.new (plain.groups (input_section_of section ∷ []))) }
     {
         match id {
-            1 => Ok(Input(Types(self.taken_groups(alloc, taker)?))),
+            1 => Ok(Input(Types(self.sized_groups(alloc, sink)?))),
             2 => Ok(Read(Payload::Imports(self.section_of::<Import<'d>>(alloc)?))),
             3 => Ok(Input(Functions(self.input_vector::<DefinedFunction>(alloc)?))),
             4 => Ok(Read(Payload::Tables(self.section_of::<TableDef>(alloc)?))),

@@ -30,7 +30,7 @@ const FUNCREF: RefType = RefType {
 impl<'d> InputEntry<'d> for Element {
     type Value = Element;
 
-    ghost Seen = { plain.Element };
+    ghost Data = { plain.Element };
 
     ghost form = { element_segment.read };
 

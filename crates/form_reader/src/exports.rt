@@ -15,7 +15,7 @@ use wasm_spec::ExternalKind;
 impl<'d> Entry<'d> for Export<'d> {
     type Value = Export<'d>;
 
-    ghost Seen = { plain.Export };
+    ghost Data = { plain.Export };
 
     ghost form = { export_entry.read };
 

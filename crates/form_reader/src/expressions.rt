@@ -16,7 +16,7 @@ use wasm_spec::Operator;
 impl<'d> Entry<'d> for ConstExpr {
     type Value = ConstExpr;
 
-    ghost Seen = { plain.Expression };
+    ghost Data = { plain.Expression };
 
     ghost form = { expression_at };
 

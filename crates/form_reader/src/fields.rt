@@ -19,7 +19,7 @@ const I16: u8 = 0x77;
 impl<'d> Entry<'d> for FieldType {
     type Value = FieldType;
 
-    ghost Seen = { declared.FieldType };
+    ghost Data = { declared.FieldType };
 
     ghost form = { field_type.read };
 

@@ -21,7 +21,7 @@ pub struct DefinedGlobal;
 impl<'d> InputEntry<'d> for DefinedGlobal {
     type Value = GlobalType;
 
-    ghost Seen = { declared.GlobalType };
+    ghost Data = { declared.GlobalType };
 
     ghost form = { type_of_global_at };
 
@@ -68,7 +68,7 @@ impl<'d> InputEntry<'d> for DefinedGlobal {
 impl<'d> InputEntry<'d> for GlobalDef {
     type Value = GlobalDef;
 
-    ghost Seen = { plain.GlobalDef };
+    ghost Data = { plain.GlobalDef };
 
     ghost form = { global_entry.read };
 

@@ -15,7 +15,7 @@ use wasm_spec::{TypeRef, What};
 impl<'d> Entry<'d> for Import<'d> {
     type Value = Import<'d>;
 
-    ghost Seen = { plain.Import };
+    ghost Data = { plain.Import };
 
     ghost form = { import_entry.read };
 

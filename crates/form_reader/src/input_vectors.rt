@@ -22,13 +22,13 @@ const MANY_ENTRIES: u32 = 1024;
 pub trait InputEntry<'d> {
     type Value: Drop;
 
-    ghost Seen: { Type 0 };
+    ghost Data: { Type 0 };
 
-    ghost form: { Reader Seen };
+    ghost form: { Reader Data };
 
-    ghost view: { Self.Value → Seen };
+    ghost view: { Self.Value → Data };
 
-    ghost of_section: { plain.Payload → List Seen };
+    ghost of_section: { plain.Payload → List Data };
 
     ghost no_customs: { (name bytes : List ℕ) → of_section (plain.Custom name bytes) ≡ [] };
 

@@ -37,7 +37,7 @@ mod fields;
 mod form;
 mod frequent_globals;
 mod globals;
-mod group_takers;
+mod group_sink;
 mod imports;
 mod input;
 mod input_vectors;
@@ -69,7 +69,7 @@ pub use form::{
     Form, FunctionBody, GlobalDef, Import, Payload, TableDef,
 };
 pub use globals::DefinedGlobal;
-pub use group_takers::{NoTaker, TakeGroups};
+pub use group_sink::{GroupSink, NoSink};
 pub use input::{InputEntries, InputForm, InputPart, InputSection};
 pub use input_vectors::{InputEntry, InputVector};
 pub use laws::spelling_is_unique;

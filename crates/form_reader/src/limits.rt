@@ -32,7 +32,7 @@ fn is_set(flags: u8, bit: u8) -> bool
 impl<'d> Entry<'d> for MemoryType {
     type Value = MemoryType;
 
-    ghost Seen = { declared.MemoryType };
+    ghost Data = { declared.MemoryType };
 
     ghost form = { memory_type.read };
 

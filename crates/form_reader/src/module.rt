@@ -8,13 +8,13 @@ ghost use Rattle.wasm_spec.specs.Grammar.{Spells, Stops};
 ghost use Rattle.wasm_spec.specs.Sizes.{HasShortTypes};
 ghost use Rattle.wasm_spec.specs.Interfaces.{HasNoInterfaceTypes};
 ghost use Rattle.form_reader.specs.Views.{module_of, payload_of};
-ghost use Rattle.form_reader.specs.Input.{sections_of_part, input_module_of, HasTaken, TakesGroups};
+ghost use Rattle.form_reader.specs.Input.{sections_of_part, input_module_of, HasGroups, AddsGroups};
 ghost use Rattle.form_reader.specs.Outcomes.{ReadsAs, ReadsInputAs};
 ghost use Rattle.form_reader.specs.Reading.{Gives};
 ghost use Rattle.form_reader.specs.ReadingSections.{is_component as spec_is_component, module_at};
 
 use crate::error::ReadError;
-use crate::group_takers::{NoTaker, TakeGroups};
+use crate::group_sink::{GroupSink, NoSink};
 use crate::input::{InputForm, InputPart};
 use crate::sections::sections;
 use crate::{Form, Payload};
@@ -42,18 +42,18 @@ fn is_component(bytes: &[u8]) -> bool
 
 /// The sections after the header.
 #[tactic(auto, unfolding(crate::specs::ReadingSections::module_at))]
-fn parts_of<'d, T: TakeGroups>(
+fn parts_of<'d, T: GroupSink>(
     alloc: Global,
     bytes: &'d [u8],
-    taker: &mut T,
+    sink: &mut T,
 ) -> Result<Vec<InputPart<'d>>, ReadError>
     requires small { length bytes.now < 2 ^ 30 }
-    requires taking { HasTaken T.took taker.old }
+    requires taking { HasGroups T.holds sink.old }
     ensures reads { Gives (λ x. flat_map sections_of_part x.items) result (module_at bytes.now) }
-    ensures takes { IfOk result (λ parts. TakesGroups T.took taker.old taker.new (groups (flat_map sections_of_part parts.items))) }
+    ensures takes { IfOk result (λ parts. AddsGroups T.holds sink.old sink.new (groups (flat_map sections_of_part parts.items))) }
 {
     if bytes.starts_with(&HEADER) {
-        return sections(alloc, HEADER.len(), &bytes[HEADER.len()..], taker);
+        return sections(alloc, HEADER.len(), &bytes[HEADER.len()..], sink);
     }
     if is_component(bytes) {
         return Err(ReadError::Unsupported(What::Component));
@@ -73,19 +73,19 @@ fn collected<'d>(alloc: Global, parts: Vec<InputPart<'d>>) -> Result<Vec<Payload
 }
 
 /// The module that the bytes spell; its types, functions, tags, globals, segments and custom
-/// sections stay in the input. `taker` takes the groups of its types as they are read.
+/// sections stay in the input. `sink` takes the groups of its types as they are read.
 ///
 /// # Errors
 /// Those of `read_module`.
-pub fn read_input<'d, T: TakeGroups>(
+pub fn read_input<'d, T: GroupSink>(
     alloc: Global,
     bytes: &'d [u8],
-    taker: &mut T,
+    sink: &mut T,
 ) -> Result<InputForm<'d>, ReadError>
-    requires { HasTaken T.took taker.old }
+    requires { HasGroups T.holds sink.old }
     // What is read is spelled so.
     ensures read { IfOk result (λ form. Spells bytes.now (input_module_of form)) }
-    ensures takes { IfOk result (λ form. TakesGroups T.took taker.old taker.new (groups (input_module_of form))) }
+    ensures takes { IfOk result (λ form. AddsGroups T.holds sink.old sink.new (groups (input_module_of form))) }
     // Custom sections of interface types are refused.
     ensures no_interface_types { IfOk result (λ form. HasNoInterfaceTypes (input_module_of form)) }
     ensures whole { IfOk result (λ form. form.wasm.now ≡ bytes.now) }
@@ -102,7 +102,7 @@ pub fn read_input<'d, T: TakeGroups>(
     if bytes.len() >= MAX_MODULE_SIZE {
         return Err(ReadError::TooLarge);
     }
-    let parts = parts_of(alloc, bytes, taker)?;
+    let parts = parts_of(alloc, bytes, sink)?;
     Ok(InputForm { wasm: bytes, parts })
 }
 
@@ -127,7 +127,7 @@ pub fn read_module<'d>(alloc: Global, bytes: &'d [u8]) -> Result<Form<'d>, ReadE
     ensures malformed { result ≡ Err ReadError.Malformed → (m : Module) → ¬ Spells bytes.now m }
     ensures stops_nowhere { result ≡ Err ReadError.Malformed → (what : What) → ¬ Stops bytes.now what }
 {
-    let form = read_input(alloc, bytes, &mut NoTaker)?;
+    let form = read_input(alloc, bytes, &mut NoSink)?;
     let payloads = collected(alloc, form.parts)?;
     Ok(Form {
         wasm: bytes,

@@ -3,7 +3,7 @@
 ghost use Rattle.std.specs.Prelude.{◌≡◌, ◌+◌, ◌<◌, ◌^◌, [], ◌∷◌, length, nat_eq, false, IfOk};
 ghost use Rattle.std.specs.List.{flat_map, starts_with};
 ghost use Rattle.wasm_spec.specs.Module as plain;
-ghost use Rattle.form_reader.specs.Input.{input_section_of, sections_of_part, HasTaken, TakesGroups};
+ghost use Rattle.form_reader.specs.Input.{input_section_of, sections_of_part, HasGroups, AddsGroups};
 ghost use Rattle.form_reader.specs.Reading.{Gives, Reads};
 ghost use Rattle.form_reader.specs.ReadingSections.{all_sections_at, ReadsSections};
 ghost use Rattle.form_reader.specs.SectionRows.{section};
@@ -11,7 +11,7 @@ ghost use Rattle.form_reader.specs.SectionRows.{section};
 use crate::contents::{next_order, order_of};
 use crate::cursor::Cursor;
 use crate::error::ReadError;
-use crate::group_takers::TakeGroups;
+use crate::group_sink::GroupSink;
 use crate::input::{InputPart, InputSection};
 use std::alloc::Global;
 
@@ -19,61 +19,61 @@ impl<'d> Cursor<'d> {
     /// A non-custom section at a given offset of the input, where the next one has at least the
     /// order `next`.
     #[tactic(auto, unfolding(crate::specs::SectionRows::section))]
-    pub fn section<T: TakeGroups>(
+    pub fn section<T: GroupSink>(
         &mut self,
         alloc: Global,
         place: usize,
         next: usize,
-        taker: &mut T,
+        sink: &mut T,
     ) -> Result<InputSection<'d>, ReadError>
         requires small { place + length self.now.rest.now < 2 ^ 30 }
-        requires taking { HasTaken T.took taker.old }
+        requires taking { HasGroups T.holds sink.old }
         requires other { starts_with nat_eq self.now.rest.now (0 ∷ []) ≡ false }
         ensures reads { Reads (section place next).read input_section_of self.old.rest.now self.new.rest.now result }
-        ensures takes { IfOk result (λ section. TakesGroups T.took taker.old taker.new (plain.groups (input_section_of section ∷ []))) }
+        ensures takes { IfOk result (λ section. AddsGroups T.holds sink.old sink.new (plain.groups (input_section_of section ∷ []))) }
     {
         let id = self.byte()?;
         match order_of(id) {
-            Some(order) if next <= order => { self.section_contents(alloc, place + 1, id, taker) }
+            Some(order) if next <= order => { self.section_contents(alloc, place + 1, id, sink) }
             _ => Err(ReadError::Malformed),
         }
     }
 
     /// A run of custom sections, or another section, as `section` reads it; after that the next one
     /// has at least the new order.
-    fn part<T: TakeGroups>(
+    fn part<T: GroupSink>(
         &mut self,
         alloc: Global,
         place: usize,
         next: &mut usize,
-        taker: &mut T,
+        sink: &mut T,
     ) -> Result<InputPart<'d>, ReadError>
         requires small { place + length self.now.rest.now < 2 ^ 30 }
-        requires taking { HasTaken T.took taker.old }
+        requires taking { HasGroups T.holds sink.old }
         ensures reads { ReadsSections sections_of_part place next.old next.new self.old.rest.now self.new.rest.now result }
-        ensures takes { IfOk result (λ part. TakesGroups T.took taker.old taker.new (plain.groups (sections_of_part part))) }
+        ensures takes { IfOk result (λ part. AddsGroups T.holds sink.old sink.new (plain.groups (sections_of_part part))) }
     {
         if self.is_at_custom() {
             return Ok(InputPart::Customs(self.customs()?));
         }
-        let section = self.section(alloc, place, *next, taker)?;
+        let section = self.section(alloc, place, *next, sink)?;
         *next = next_order(*next, &section);
         Ok(InputPart::Section(section))
     }
 }
 
-/// The sections up to the end of the bytes, which begin at a given offset of the input. `taker`
+/// The sections up to the end of the bytes, which begin at a given offset of the input. `sink`
 /// takes the groups of types.
-pub fn sections<'d, T: TakeGroups>(
+pub fn sections<'d, T: GroupSink>(
     alloc: Global,
     start: usize,
     bytes: &'d [u8],
-    taker: &mut T,
+    sink: &mut T,
 ) -> Result<Vec<InputPart<'d>>, ReadError>
     requires small { start + length bytes.now < 2 ^ 30 }
-    requires taking { HasTaken T.took taker.old }
+    requires taking { HasGroups T.holds sink.old }
     ensures reads { Gives (λ x. flat_map sections_of_part x.items) result (all_sections_at start 0 bytes.now) }
-    ensures takes { IfOk result (λ parts. TakesGroups T.took taker.old taker.new (plain.groups (flat_map sections_of_part parts.items))) }
+    ensures takes { IfOk result (λ parts. AddsGroups T.holds sink.old sink.new (plain.groups (flat_map sections_of_part parts.items))) }
 {
     let mut all = Vec::new(alloc);
     let mut cursor = Cursor { rest: bytes };
@@ -81,7 +81,7 @@ pub fn sections<'d, T: TakeGroups>(
     let mut next = 0;
     'parts: while !cursor.rest.is_empty() {
         let before = cursor.rest.len();
-        let part = cursor.part(alloc, place, &mut next, taker)?;
+        let part = cursor.part(alloc, place, &mut next, sink)?;
         place += before - cursor.rest.len();
         all.push(part)?;
     }

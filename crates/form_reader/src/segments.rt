@@ -19,7 +19,7 @@ use wasm_spec::Operator;
 impl<'d> InputEntry<'d> for DataSegment<'d> {
     type Value = DataSegment<'d>;
 
-    ghost Seen = { plain.Segment };
+    ghost Data = { plain.Segment };
 
     ghost form = { data_segment.read };
 

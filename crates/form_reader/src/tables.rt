@@ -19,7 +19,7 @@ const RESERVED: u8 = 0x00;
 impl<'d> Entry<'d> for TableDef {
     type Value = TableDef;
 
-    ghost Seen = { plain.TableDef };
+    ghost Data = { plain.TableDef };
 
     ghost form = { table_entry.read };
 

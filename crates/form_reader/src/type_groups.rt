@@ -40,7 +40,7 @@ const GROUP: u8 = 0x4E;
 impl<'d> Entry<'d> for SubType {
     type Value = SubType;
 
-    ghost Seen = { data_of.SubType UnpackedIndex UnpackedIndex };
+    ghost Data = { data_of.SubType UnpackedIndex UnpackedIndex };
 
     ghost form = { (first_byte sub_type_after).read };
 
@@ -55,7 +55,7 @@ impl<'d> Entry<'d> for SubType {
 impl<'d> InputEntry<'d> for RecGroup {
     type Value = RecGroup;
 
-    ghost Seen = { data_of.Group UnpackedIndex UnpackedIndex };
+    ghost Data = { data_of.Group UnpackedIndex UnpackedIndex };
 
     ghost form = { group.read };
 

@@ -22,7 +22,7 @@ pub struct DefinedTag;
 impl<'d> InputEntry<'d> for DefinedFunction {
     type Value = u32;
 
-    ghost Seen = { ℕ };
+    ghost Data = { ℕ };
 
     ghost form = { unsigned_at 32 };
 
@@ -68,7 +68,7 @@ impl<'d> InputEntry<'d> for DefinedFunction {
 impl<'d> InputEntry<'d> for DefinedTag {
     type Value = u32;
 
-    ghost Seen = { ℕ };
+    ghost Data = { ℕ };
 
     ghost form = { tag_type.read };
 

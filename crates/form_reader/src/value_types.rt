@@ -68,7 +68,7 @@ pub fn number_type(byte: u8) -> Option<ValType>
 impl<'d> Entry<'d> for ValType {
     type Value = ValType;
 
-    ghost Seen = { declared.ValType };
+    ghost Data = { declared.ValType };
 
     ghost form = { value_type.read };
 

@@ -15,11 +15,11 @@ pub(crate) const MOST_ROOM: usize = 1024;
 pub trait Entry<'d> {
     type Value: Drop;
 
-    ghost Seen: { Type 0 };
+    ghost Data: { Type 0 };
 
-    ghost form: { Reader Seen };
+    ghost form: { Reader Data };
 
-    ghost view: { Self.Value → Seen };
+    ghost view: { Self.Value → Data };
 
     /// The entry that the bytes spell next.
     fn read(alloc: Global, cursor: &mut Cursor<'d>) -> Result<Self::Value, ReadError>
@@ -32,7 +32,7 @@ pub struct IndexEntry;
 impl<'d> Entry<'d> for IndexEntry {
     type Value = u32;
 
-    ghost Seen = { ℕ };
+    ghost Data = { ℕ };
 
     ghost form = { unsigned_at 32 };
 

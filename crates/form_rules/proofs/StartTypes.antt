@@ -3,7 +3,7 @@ use Rattle.std.proofs.Common.{◌≡◌, ◌↔◌, List, [], ◌∷◌, map, re
 use Rattle.wasm_spec.specs.TypeData.{Func, Array, Struct, Cont, Exn}
 use Rattle.rule_spec.specs.Indices.{TakesAndGivesNothing}
 use Rattle.form_rules.specs.Unnamed.{unnamed}
-use Rattle.form_rules.proofs.KindsAsked.{Kind}
+use Rattle.form_rules.proofs.KindFunctions.{Kind}
 
 none-mapped : {A B : Type 0} (f : A → B) (xs : List A) → map f xs ≡ [] → xs ≡ []
 none-mapped f [] is = refl

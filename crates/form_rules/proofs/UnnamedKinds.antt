@@ -8,7 +8,7 @@ use Rattle.wasm_spec.specs.TypeData.{ValueType, I32, I64, F32, F64, V128, Ref, S
 use Rattle.rule_spec.specs.declared.classes.Class.{Class}
 use Rattle.rule_spec.specs.Typing.{class_of, storage_class, field_class, value_has_default, storage_has_default, has_default, struct_fields}
 use Rattle.form_rules.specs.Unnamed.{unnamed}
-use Rattle.form_rules.proofs.KindsAsked.{Kind, asked}
+use Rattle.form_rules.proofs.KindFunctions.{Kind, equal-result}
 use Rattle.form_rules.specs.Defaults.{defaults_of}
 
 -- ---- parts of kinds
@@ -77,4 +77,4 @@ module _ {A B : Type 0} (g : Kind → Option A) (h : A → B) where
 -- the classes of its fields
 pub struct-classes : (k : Kind) (o : Option Kind) → Some (unnamed k) ≡ option_map unnamed o
     → option_map (map field_class) (struct_fields k) ≡ option_map (map field_class) (option_and_then struct_fields o)
-struct-classes k o same = part struct_fields (map field_class) k o (asked (λ d. option_map (map field_class) (struct_fields d)) struct-alone k o same)
+struct-classes k o same = part struct_fields (map field_class) k o (equal-result (λ d. option_map (map field_class) (struct_fields d)) struct-alone k o same)

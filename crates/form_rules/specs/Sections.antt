@@ -12,7 +12,7 @@ use Rattle.form_rules.specs.declared.sections.Entries.{Entries}
 
 -- what remains of a walk: the rest of the current section, and the sections after that
 unfoldable pub entries_left : {T X : Type 0} → (T → X) → (plain.Payload → List X) → Entries T → List X
-entries_left seen of_section walk = map seen walk.entries.now ++ flat_map of_section (sections_left walk.sections)
+entries_left as_data of_section walk = map as_data walk.entries.now ++ flat_map of_section (sections_left walk.sections)
 
 -- where the kinds of sections that may stay in the input list no entries of a kind, no section that
 -- stays in the input lists any

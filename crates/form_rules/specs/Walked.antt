@@ -10,7 +10,7 @@ use Rattle.form_rules.specs.Globals.{IsGlobalTyped}
 use Rattle.form_rules.specs.declared.elements.ElementsKeep.{ElementsKeep}
 use Rattle.form_rules.specs.declared.globals.GlobalsKeep.{GlobalsKeep}
 use Rattle.form_rules.specs.declared.segments.SegmentsKeep.{SegmentsKeep}
-use Rattle.form_rules.specs.declared.rules.Asked.{Asked}
+use Rattle.form_rules.specs.declared.rules.Findings.{Findings}
 
 -- for each rule it is known whether all globals keep it
 pub record AreGlobalsWalked (l : Lists) (kept : GlobalsKeep) : Type 0 where
@@ -49,8 +49,8 @@ pub record IsSegmentAdded (l : Lists) (before : SegmentsKeep) (s : Segment) (kep
   pub refer : IsTrue kept.refer ↔ (IsTrue before.refer × DataKindRefersIn (length l.types) s.kind)
 
 -- what was checked of all entries of a kind, before the rules are checked
-pub record AreAsked (l : Lists) (asked : Asked) : Type 0 where
-  pub globals : AreGlobalsWalked l asked.globals
-  pub elements : AreElementsWalked l asked.elements
-  pub segments : AreSegmentsWalked l asked.segments
-  pub distinct : IsTrue asked.distinct ↔ AreDistinct l.exports
+pub record AreFindings (l : Lists) (findings : Findings) : Type 0 where
+  pub globals : AreGlobalsWalked l findings.globals
+  pub elements : AreElementsWalked l findings.elements
+  pub segments : AreSegmentsWalked l findings.segments
+  pub distinct : IsTrue findings.distinct ↔ AreDistinct l.exports

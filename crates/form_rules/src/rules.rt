@@ -8,7 +8,7 @@ ghost use Rattle.rule_spec.specs.Rules.{Satisfies, Keeps, KeepsBefore};
 ghost use Rattle.form_types.specs.Numbered.{AreNumbered};
 ghost use Rattle.form_rules.specs.Source.{source_module};
 ghost use Rattle.form_rules.specs.Views.{lists_of};
-ghost use Rattle.form_rules.specs.Walked.{AreAsked};
+ghost use Rattle.form_rules.specs.Walked.{AreFindings};
 ghost use Rattle.form_rules.specs.Names.{exported_names};
 ghost use Rattle.form_rules.specs.Outcomes.{ChecksOrNoMemory, HasGlobals};
 
@@ -51,7 +51,7 @@ const RULES: [Rule; 9] = [
 /// Which rules all entries of a kind keep. It is found in one pass, before the rules are checked in
 /// order.
 #[derive(Clone, Copy)]
-pub struct Asked {
+pub struct Findings {
     pub globals: GlobalsKeep,
     pub elements: ElementsKeep,
     pub segments: SegmentsKeep,
@@ -108,14 +108,14 @@ pub fn checked_lists<'f, 'd>(
         lists: &lists,
         defaults: &defaults,
     };
-    let asked = Asked {
+    let findings = Findings {
         globals: walk_globals(alloc, &typing)?,
         elements: walk_elements(alloc, &typing)?,
         segments: walk_segments(alloc, &typing)?,
         distinct: names.is_some(),
     };
     for rule in RULES {
-        if !keeps(alloc, rule, &typing, asked)? {
+        if !keeps(alloc, rule, &typing, findings)? {
             return Err(CheckError::Invalid(rule));
         }
     }
@@ -131,19 +131,19 @@ fn keeps(
     alloc: Global,
     rule: Rule,
     typing: &Typing<'_, '_, '_>,
-    asked: Asked,
+    findings: Findings,
 ) -> Result<bool, AllocError>
     requires well { Satisfies Rule.L1 (lists_of typing.now.lists.now) }
     requires counted { HasGlobals (lists_of typing.now.lists.now) }
-    requires asked { AreAsked (lists_of typing.now.lists.now) asked }
+    requires findings { AreFindings (lists_of typing.now.lists.now) findings }
     ensures { IfOk result (λ kept. IsTrue kept ↔ Satisfies rule (lists_of typing.now.lists.now)) }
 {
-    let Asked {
+    let Findings {
         globals,
         elements,
         segments,
         distinct,
-    } = asked;
+    } = findings;
     let lists = typing.lists;
     match rule {
         Rule::L1 => Ok(true),

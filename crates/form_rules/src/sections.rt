@@ -15,15 +15,15 @@ use form_reader::{Export, FunctionBody, Import, Payload, TableDef};
 
 /// An entry that sections of one kind list, and that never stays in the input.
 pub trait FormEntry<'d>: Sized {
-    ghost Seen: { Type 0 };
+    ghost Data: { Type 0 };
 
-    ghost seen: { Self → Seen };
+    ghost as_data: { Self → Data };
 
-    ghost of_section: { plain.Payload → List Seen };
+    ghost of_section: { plain.Payload → List Data };
 
     /// The entries of a section; sections of other kinds have none.
     fn in_section<'f>(payload: &'f Payload<'d>) -> &'f [Self]
-        ensures { map seen result.now ≡ of_section (payload_of payload.now) };
+        ensures { map as_data result.now ≡ of_section (payload_of payload.now) };
 
     ghost no_input: { (entries : InputEntries) → of_section (input_payload_of entries) ≡ [] };
 
@@ -34,7 +34,7 @@ pub trait FormEntry<'d>: Sized {
 /// sections.
 #[inline]
 pub(crate) fn entries_in<'f, 'd, T: FormEntry<'d>>(section: Section<'f, 'd>) -> &'f [T]
-    ensures { map T.seen result.now ≡ flat_map T.of_section (sections_in section.entry) }
+    ensures { map T.as_data result.now ≡ flat_map T.of_section (sections_in section.entry) }
 {
     match section {
         Section::Read(payload) => T::in_section(payload),
@@ -65,7 +65,7 @@ pub struct Entries<'f, 'd, T> {
 #[inline]
 #[tactic(auto, unfolding(crate::specs::Sections::entries_left))]
 pub fn entries_of<'f, 'd, T: FormEntry<'d>>(source: ModuleSource<'f, 'd>) -> Entries<'f, 'd, T>
-    ensures { entries_left T.seen T.of_section result ≡ flat_map T.of_section (source_module source.entry) }
+    ensures { entries_left T.as_data T.of_section result ≡ flat_map T.of_section (source_module source.entry) }
 {
     Entries {
         entries: &[],
@@ -76,9 +76,9 @@ pub fn entries_of<'f, 'd, T: FormEntry<'d>>(source: ModuleSource<'f, 'd>) -> Ent
 impl<'f, 'd, T: FormEntry<'d>> Iterator for Entries<'f, 'd, T> {
     type Item = &'f T;
 
-    ghost next_gives = { YieldsFirstBy (λ x. T.seen x.now) (entries_left T.seen T.of_section) };
+    ghost next_gives = { YieldsFirstBy (λ x. T.as_data x.now) (entries_left T.as_data T.of_section) };
 
-    ghost remaining = { item_count (entries_left T.seen T.of_section) };
+    ghost remaining = { item_count (entries_left T.as_data T.of_section) };
 
     #[inline]
     #[tactic(auto, unfolding(crate::specs::Sections::entries_left))]
@@ -95,9 +95,9 @@ impl<'f, 'd, T: FormEntry<'d>> Iterator for Entries<'f, 'd, T> {
 }
 
 impl<'d> FormEntry<'d> for Import<'d> {
-    ghost Seen = { plain.Import };
+    ghost Data = { plain.Import };
 
-    ghost seen = { import_of };
+    ghost as_data = { import_of };
 
     ghost of_section = { plain.imports_of_section };
 
@@ -115,9 +115,9 @@ impl<'d> FormEntry<'d> for Import<'d> {
 }
 
 impl<'d> FormEntry<'d> for TableDef {
-    ghost Seen = { plain.TableDef };
+    ghost Data = { plain.TableDef };
 
-    ghost seen = { table_of };
+    ghost as_data = { table_of };
 
     ghost of_section = { plain.tables_of_section };
 
@@ -135,9 +135,9 @@ impl<'d> FormEntry<'d> for TableDef {
 }
 
 impl<'d> FormEntry<'d> for Export<'d> {
-    ghost Seen = { plain.Export };
+    ghost Data = { plain.Export };
 
-    ghost seen = { export_of };
+    ghost as_data = { export_of };
 
     ghost of_section = { plain.exports_of_section };
 
@@ -155,9 +155,9 @@ impl<'d> FormEntry<'d> for Export<'d> {
 }
 
 impl<'d> FormEntry<'d> for FunctionBody<'d> {
-    ghost Seen = { plain.Body };
+    ghost Data = { plain.Body };
 
-    ghost seen = { body_of };
+    ghost as_data = { body_of };
 
     ghost of_section = { plain.bodies_of_section };
 

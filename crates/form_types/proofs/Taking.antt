@@ -13,13 +13,13 @@ use Rattle.form_types.specs.declared.canonical.CanonicalGroup.{CanonicalGroup}
 use Rattle.form_types.specs.declared.numbering.Numbering.{Numbering}
 use Rattle.form_types.specs.Types.{NamedGroup, types_by_id}
 use Rattle.form_types.specs.Adding.{AddsGroup}
-use Rattle.form_types.specs.Taken.{FirstAreNumbered, Took}
+use Rattle.form_types.specs.Taken.{FirstAreNumbered, IsNumberingOf}
 use Rattle.form_types.specs.Below.{NamesBelow}
 use Rattle.form_types.proofs.Steps.{total-more}
 use Rattle.form_types.proofs.Built.{HasNone, built-none, built-empty, built-more}
 use Rattle.form_types.proofs.Ruled.{last_declared, size-places, below-more, near-last}
 
-pub took-none : (n : Numbering) → n.names_below ≡ true → HasNone n → Took n []
+pub took-none : (n : Numbering) → n.names_below ≡ true → HasNone n → IsNumberingOf n []
 took-none n is none = record {
   below = (λ on. All-nil NamesBelow, λ all. is);
   built = λ on. built-none n none;
@@ -28,7 +28,7 @@ took-none n is none = record {
 }
 
 -- the key of the last group says nothing of those that were taken
-pub took-keyed : (done : List NamedGroup) (n : Numbering) (key : CanonicalGroup) → Took n done → Took (record n { key = key }) done
+pub took-keyed : (done : List NamedGroup) (n : Numbering) (key : CanonicalGroup) → IsNumberingOf n done → IsNumberingOf (record n { key = key }) done
 took-keyed done n key t = record {
   below = t.below;
   built = λ on. let b = t.built on in record { keys = b.keys; numbered = b.numbered; counted = b.counted; listed = b.listed };
@@ -38,7 +38,7 @@ took-keyed done n key t = record {
 
 -- ---- what tests of a group say
 
-module _ (done : List NamedGroup) (n : Numbering) (g : RecGroup) (t : Took n done) (on : IsTrue n.names_below) (start : ℕ) (at : start ≡ length n.declared.items) where
+module _ (done : List NamedGroup) (n : Numbering) (g : RecGroup) (t : IsNumberingOf n done) (on : IsTrue n.names_below) (start : ℕ) (at : start ≡ length n.declared.items) where
   -- the first member's index
   pub start-is : start ≡ length (types_by_id done)
   start-is = omega (arith, at, (t.built on).counted, length-map n.declared.items (λ (id : CoreTypeId). id.0), size-places done)
@@ -52,9 +52,9 @@ module _ (done : List NamedGroup) (n : Numbering) (g : RecGroup) (t : Took n don
 
 -- ---- one group more
 
-module _ (done : List NamedGroup) (n n' : Numbering) (g : NamedGroup) (t : Took n done) where
+module _ (done : List NamedGroup) (n n' : Numbering) (g : NamedGroup) (t : IsNumberingOf n done) where
   -- no more are numbered, since the group or one before it names what it may not
-  pub took-not : n'.names_below ≡ false → (All NamesBelow (declared_groups 0 done) → All NamesBelow (last_declared done g) → ⊥) → Took n' (done ++ g ∷ [])
+  pub took-not : n'.names_below ≡ false → (All NamesBelow (declared_groups 0 done) → All NamesBelow (last_declared done g) → ⊥) → IsNumberingOf n' (done ++ g ∷ [])
   took-not stopped fails = record {
     below = (λ on. absurd (never on), λ all. let both = (below-more done g).0 all in absurd (fails both.0 both.1));
     built = λ on. absurd (never on);
@@ -65,7 +65,7 @@ module _ (done : List NamedGroup) (n n' : Numbering) (g : NamedGroup) (t : Took 
     never on = let e : true ≡ false = sym on ∙ stopped in absurd cc
 
   took-more : IsTrue n.names_below → IsTrue n'.names_below → All NamesBelow (last_declared done g) → length (types_by_id done) + length g < 2 ^ 30
-      → All HasShortLists g → FirstAreNumbered (done ++ g ∷ []) n' → Took n' (done ++ g ∷ [])
+      → All HasShortLists g → FirstAreNumbered (done ++ g ∷ []) n' → IsNumberingOf n' (done ++ g ∷ [])
   took-more on on' last few short built = record {
     below = (λ _. (below-more done g).1 (t.below.0 on, last), λ all. on');
     built = λ _. built;
@@ -75,11 +75,11 @@ module _ (done : List NamedGroup) (n n' : Numbering) (g : NamedGroup) (t : Took 
   }
 
   pub took-added : IsTrue n.names_below → IsTrue n'.names_below → All NamesBelow (last_declared done g) → length (types_by_id done) + length g < 2 ^ 30
-      → All HasShortLists g → 0 < length g → AddsGroup n n' g → Took n' (done ++ g ∷ [])
+      → All HasShortLists g → 0 < length g → AddsGroup n n' g → IsNumberingOf n' (done ++ g ∷ [])
   took-added on on' last few short some adds = took-more on on' last few short (built-more done n n' g (t.built on) some (near-last done g last) adds)
 
 -- a group of no type
-pub took-empty : (done : List NamedGroup) (n : Numbering) (g : NamedGroup) → Took n done → IsTrue n.names_below → g ≡ [] → Took n (done ++ g ∷ [])
+pub took-empty : (done : List NamedGroup) (n : Numbering) (g : NamedGroup) → IsNumberingOf n done → IsTrue n.names_below → g ≡ [] → IsNumberingOf n (done ++ g ∷ [])
 took-empty done n g t on none =
     took-more done n n g t on on (subst (λ (h : NamedGroup). All NamesBelow (last_declared done h)) (sym none) (All-nil NamesBelow)) (omega (arith, t.few on, ap length none))
     (subst (All HasShortLists) (sym none) (All-nil HasShortLists)) (built-empty done n g (ap length none) (t.built on))

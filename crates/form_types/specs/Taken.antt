@@ -86,7 +86,7 @@ pub record FirstAreNumbered (done : List NamedGroup) (n : Numbering) : Type 0 wh
 -- ---- the groups that were taken
 
 -- these groups were taken: where each type names what it may, they are numbered, and are few and short
-pub record Took (n : Numbering) (groups : List NamedGroup) : Type 0 where
+pub record IsNumberingOf (n : Numbering) (groups : List NamedGroup) : Type 0 where
   pub below : IsTrue n.names_below ↔ All NamesBelow (declared_groups 0 groups)
   pub built : IsTrue n.names_below → FirstAreNumbered groups n
   pub few : IsTrue n.names_below → length (types_by_id groups) < 2 ^ 30

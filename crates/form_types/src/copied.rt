@@ -3,11 +3,11 @@
 ghost use Rattle.std.specs.Prelude.{◌≡◌, map, IfOk, OnOk};
 ghost use Rattle.wasm_spec.specs.Module.{groups};
 ghost use Rattle.form_reader.specs.Views.{composite_of, sub_type_of, group_of, module_of};
-ghost use Rattle.form_reader.specs.Input.{HasTaken, TakesGroups};
-ghost use Rattle.form_types.specs.Taken.{Took};
+ghost use Rattle.form_reader.specs.Input.{HasGroups, AddsGroups};
+ghost use Rattle.form_types.specs.Taken.{IsNumberingOf};
 
 use crate::numbering::Numbering;
-use form_reader::{CompositeInnerType, Form, FuncType, InputEntry, RecGroup, SubType, TakeGroups};
+use form_reader::{CompositeInnerType, Form, FuncType, GroupSink, InputEntry, RecGroup, SubType};
 use std::alloc::{AllocError, Global};
 
 fn copied_composite(
@@ -44,27 +44,27 @@ fn copied_group(alloc: Global, group: &RecGroup) -> Result<RecGroup, AllocError>
 }
 
 /// Passes copies of some groups to the numbering.
-fn take_copies(
+fn push_copies(
     alloc: Global,
     groups: &[RecGroup],
     numbering: &mut Numbering,
 ) -> Result<(), AllocError>
-    requires { HasTaken Took numbering.old }
-    ensures { OnOk result (TakesGroups Took numbering.old numbering.new (map group_of groups.now)) }
+    requires { HasGroups IsNumberingOf numbering.old }
+    ensures { OnOk result (AddsGroups IsNumberingOf numbering.old numbering.new (map group_of groups.now)) }
 {
     for group in groups {
-        numbering.take_group(alloc, copied_group(alloc, group)?)?;
+        numbering.push_group(alloc, copied_group(alloc, group)?)?;
     }
     Ok(())
 }
 
 /// The numbering of the groups of a form.
 pub fn numbering_of_form(alloc: Global, form: &Form<'_>) -> Result<Numbering, AllocError>
-    ensures { IfOk result (λ n. Took n (groups (module_of form.now))) }
+    ensures { IfOk result (λ n. IsNumberingOf n (groups (module_of form.now))) }
 {
     let mut numbering = Numbering::new(alloc, form.wasm);
     for payload in &form.payloads {
-        take_copies(alloc, RecGroup::in_payload(payload), &mut numbering)?;
+        push_copies(alloc, RecGroup::in_payload(payload), &mut numbering)?;
     }
     Ok(numbering)
 }

@@ -5,7 +5,7 @@ ghost use Rattle.form_reader.specs.Views.{group_of};
 ghost use Rattle.form_types.specs.Keys.{key_of, read_key};
 ghost use Rattle.form_types.specs.Distinct.{KeepsGroups};
 ghost use Rattle.form_types.specs.Adding.{HasFewIds, AddsGroup};
-ghost use Rattle.form_types.specs.Taken.{Took};
+ghost use Rattle.form_types.specs.Taken.{IsNumberingOf};
 
 use crate::below::members_name_below;
 use crate::canonical::CanonicalGroup;
@@ -14,7 +14,7 @@ use crate::finding::{FirstIds, find_or_note, name_key, push_row, read_key, seed_
 use crate::list_lengths::members_are_short;
 use crate::named::name_group;
 use entity_map::Seeded;
-use form_reader::{RecGroup, TakeGroups};
+use form_reader::{GroupSink, RecGroup};
 use std::alloc::{AllocError, Global};
 use std::collections::HashMap;
 use wasm_spec::CoreTypeId;
@@ -40,7 +40,7 @@ pub struct Numbering {
 impl Numbering {
     /// A numbering of no groups. `wasm` is the bytes of the module, whose types seed the hashes.
     pub fn new(alloc: Global, wasm: &[u8]) -> Numbering
-        ensures { Took result [] }
+        ensures { IsNumberingOf result [] }
     {
         let seed = seed_of(wasm);
         Numbering {
@@ -84,10 +84,10 @@ impl Numbering {
     }
 }
 
-impl TakeGroups for Numbering {
-    ghost took = { Took };
+impl GroupSink for Numbering {
+    ghost holds = { IsNumberingOf };
 
-    fn take_group(&mut self, alloc: Global, group: RecGroup) -> Result<(), AllocError> {
+    fn push_group(&mut self, alloc: Global, group: RecGroup) -> Result<(), AllocError> {
         let start = self.declared.len();
         let count = group.types.len();
         if !self.names_below || count == 0 {

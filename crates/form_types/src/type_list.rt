@@ -7,9 +7,9 @@ ghost use Rattle.rule_spec.specs.Lists.{lists_of_module};
 ghost use Rattle.rule_spec.specs.Rules.{Keeps};
 ghost use Rattle.rule_spec.specs.TypeRules.{IsDeclaredWell};
 ghost use Rattle.form_reader.specs.Views.{module_of};
-ghost use Rattle.form_reader.specs.Input.{HasTaken};
+ghost use Rattle.form_reader.specs.Input.{HasGroups};
 ghost use Rattle.form_types.specs.Numbered.{AreNumbered};
-ghost use Rattle.form_types.specs.Taken.{Took};
+ghost use Rattle.form_types.specs.Taken.{IsNumberingOf};
 
 use crate::continuations::continuations_hold;
 use crate::copied::numbering_of_form;
@@ -24,10 +24,10 @@ impl Numbering {
     /// The list of types of a module that was read, where each declared type names what it may
     /// (core specification, 3.2, recursive types).
     pub fn into_types(self, validator: &Validator) -> Option<Types>
-        requires { HasTaken Took self }
+        requires { HasGroups IsNumberingOf self }
         ensures made { IfSome result (λ t. t.validator ≡ validator.now) }
-        ensures numbered { IfSome result (λ t. (m : Module) → Took self (groups m) → AreNumbered m t) }
-        ensures well { (m : Module) → Took self (groups m)
+        ensures numbered { IfSome result (λ t. (m : Module) → IsNumberingOf self (groups m) → AreNumbered m t) }
+        ensures well { (m : Module) → IsNumberingOf self (groups m)
             → IsTrue (is_some result) ↔ All (IsDeclaredWell (lists_of_module m)) (lists_of_module m).types }
     {
         if !self.names_below || !continuations_hold(&self.distinct) {

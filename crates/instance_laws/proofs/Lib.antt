@@ -3,5 +3,5 @@ pub mod Addressed
 pub mod Alike
 pub mod TablePhases
 pub mod MemoryPhases
-pub mod Whole
+pub mod ModuleInstance
 pub mod OfPlan

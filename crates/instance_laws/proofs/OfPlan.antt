@@ -29,7 +29,7 @@ use Rattle.translate.specs.Initialised.{IsInitialised}
 use Rattle.instance_laws.specs.Objects.{Objects, Addresses}
 use Rattle.instance_laws.specs.Instances.{Recipe, SameInstance, OwnAfterTrap, instantiated}
 use Rattle.instance_laws.specs.Recipes.{recipe_of_module, recipe_by_list, recipe_by_map, MayInstantiate, InstantiatesAlike}
-use Rattle.instance_laws.proofs.Whole.{of_module, by_map, by_list, whole-by-map, whole-by-list}
+use Rattle.instance_laws.proofs.ModuleInstance.{of_module, by_map, by_list, whole-by-map, whole-by-list}
 
 module _ (o : Options) (bytes : List ℕ) (plan : Plan) (is : IsPlanned o bytes plan) (page : IsPowerOfTwo o.init.page_size) where
   abbrev m : Module

@@ -9,7 +9,7 @@ ghost use Rattle.form_rules.specs.Source.{source_module};
 ghost use Rattle.form_rules.specs.Names.{exported_names};
 ghost use Rattle.form_types.specs.Numbered.{AreNumbered};
 ghost use Rattle.form_types.specs.Placed.{placed_groups};
-ghost use Rattle.form_types.specs.Taken.{Took};
+ghost use Rattle.form_types.specs.Taken.{IsNumberingOf};
 ghost use Rattle.form_types.specs.Types.{TypesData};
 ghost use Rattle.type_spec.specs.Interned.{taken};
 ghost use Rattle.module_types.specs.Builder.{builder_view, new_builder};
@@ -154,7 +154,7 @@ fn translate_form<'d>(
     numbering: Numbering,
     translation: &mut ModuleTranslation<'d>,
 ) -> Result<(), EnvironError>
-    requires took { Took numbering (groups (source_module source)) }
+    requires took { IsNumberingOf numbering (groups (source_module source)) }
     requires few { HasFewEntries (source_module source) }
     requires new { IsNewTranslation translation.old.module.module_index translation.old }
     requires types { types.old.is_poisoned ≡ false → builder_view types.old ≡ new_builder validator.now }

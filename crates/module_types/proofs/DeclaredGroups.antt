@@ -25,7 +25,7 @@ use Rattle.form_types.specs.Numbered.{first_id, AreNumbered}
 use Rattle.form_types.proofs.Ruled.{size-places}
 use Rattle.module_types.specs.Builder.{Builder, new_builder, interns_by}
 use Rattle.module_types.specs.Conversion.{kind_in, group_of_id, members_of, no_span, start_by, index_by_id, name_by_id, id_number, interned_members, interned_index, HoldsGroups}
-use Rattle.module_types.specs.InTurn.{interns_type, interns_declared, HasTaken, CanIntern}
+use Rattle.module_types.specs.InTurn.{interns_type, interns_declared, HasGroups, CanIntern}
 use Rattle.module_types.proofs.GroupMembers.{Extends, extends-group, group-within, span-new, span-old}
 use Rattle.module_types.proofs.Holding.{noted-here, noted-elsewhere, holds-kept}
 use Rattle.module_types.proofs.Places.{group-ends}
@@ -315,7 +315,7 @@ module _ (m : plain.Module) (t : TypesData) (are : AreNumbered m t) (near : Name
         let p = reached (size gs) (omega (arith, lt)) in
         comes-next (after_first (size gs)) (size gs) lt p.0 p.1
 
-    pub tied : HasTaken t (interns_declared t (new_builder validator) 0 all) (taken all)
+    pub tied : HasGroups t (interns_declared t (new_builder validator) 0 all) (taken all)
     tied =
         let has = (reached (size all) (omega arith)).0 in
         record {

@@ -18,7 +18,7 @@ interns_declared t b start gs = fold (interns_type t) b (take (length (flat_map 
 
 -- a builder holds what the definition takes, and each declared type at the index that the
 -- definition gives it
-pub record HasTaken (t : TypesData) (b : Builder) (s : Taken) : Type 0 where
+pub record HasGroups (t : TypesData) (b : Builder) (s : Taken) : Type 0 where
   pub built : b.built ≡ s.built
   pub declared : (i : ℕ) → i < length s.declared → interned_index t b (slice_index t.declared i) ≡ get_or s.declared i 0
 

@@ -17,7 +17,7 @@ ghost use Rattle.module_types.specs.TypeList.{trampoline_at};
 ghost use Rattle.module_types.specs.Builder.{BuilderState, Builder, builder_view, new_builder, interns, excepts, starts};
 ghost use Rattle.module_types.specs.Conversion.{group_of_id, members_of, interned_index, kinds_of, HoldsGroups};
 ghost use Rattle.module_types.specs.Tied.{trampoline_in, HasTrampoline, HaveTrampolines, IsTied};
-ghost use Rattle.module_types.specs.InTurn.{interns_declared, HasTaken, CanIntern};
+ghost use Rattle.module_types.specs.InTurn.{interns_declared, HasGroups, CanIntern};
 ghost use Rattle.module_types.specs.ListGroups.{group_at, list_groups, span_at, IsWellNamed, EngineMap, TellTypes, TellTypesBefore, IsCompared, OneIndex, AreCompared};
 ghost use Rattle.module_types.specs.Runs.{with_groups, runs, firsts, AllFilled};
 
@@ -98,7 +98,7 @@ pub fn earlier_law()
 /// have one interned index exactly where they are equal.
 pub fn declared_groups_law()
     ensures taken { (m : Module) (t : TypesData) → AreNumbered m t → NameEarlier 0 (placed_groups m) → (validator : ℕ)
-        → HasTaken t (interns_declared t (new_builder validator) 0 (placed_groups m)) (taken (placed_groups m)) }
+        → HasGroups t (interns_declared t (new_builder validator) 0 (placed_groups m)) (taken (placed_groups m)) }
     ensures told { (m : Module) (t : TypesData) → AreNumbered m t → NameEarlier 0 (placed_groups m) → (validator i j : ℕ)
         → i < length t.declared → j < length t.declared
         → (interned_index t (interns_declared t (new_builder validator) 0 (placed_groups m)) (slice_index t.declared i)

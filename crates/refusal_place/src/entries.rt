@@ -21,7 +21,7 @@ pub(crate) struct InputEntryReader<E> {
 impl<'d, E: InputEntry<'d>> Entry<'d> for InputEntryReader<E> {
     type Value = E::Value;
 
-    ghost Seen = { E.Seen };
+    ghost Data = { E.Data };
 
     ghost form = { E.form };
 

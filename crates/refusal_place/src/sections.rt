@@ -14,7 +14,7 @@ use crate::kind::SectionKind;
 use crate::numbers::read_number;
 use crate::place::{Fault, Place};
 use entity_map::OutOfMemory;
-use form_reader::{Cursor, NoTaker, ReadError, next_order, order_of};
+use form_reader::{Cursor, NoSink, ReadError, next_order, order_of};
 use std::alloc::Global;
 
 /// The length of the section at the front, where it is read; `next` is then the least order of
@@ -35,7 +35,7 @@ pub(crate) fn pass_section(
             Err(error) => not_read(error),
         };
     }
-    match cursor.section(alloc, start, *next, &mut NoTaker) {
+    match cursor.section(alloc, start, *next, &mut NoSink) {
         Ok(section) => {
             *next = next_order(*next, &section);
             Ok(Some(rest.len() - cursor.rest.len()))

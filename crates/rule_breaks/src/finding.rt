@@ -18,7 +18,7 @@ pub(crate) fn entry_at<'f, 'd, T: FormEntry<'d>>(
     source: ModuleSource<'f, 'd>,
     entry: u32,
 ) -> Option<&'f T>
-    ensures { option_map (λ x. T.seen x.now) result ≡ slice_get (flat_map T.of_section (source_module source.entry)) entry }
+    ensures { option_map (λ x. T.as_data x.now) result ≡ slice_get (flat_map T.of_section (source_module source.entry)) entry }
 {
     let mut left = entry;
     for found in entries_of::<T>(source) {

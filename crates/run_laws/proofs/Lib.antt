@@ -2,7 +2,7 @@ pub mod GlobalNumbers
 pub mod ImagesFit
 pub mod StartupTypes
 pub mod TableImages
-pub mod Finishing
+pub mod Runnable
 pub mod Translated
 pub mod PlannedWhole
 pub mod FieldCounts

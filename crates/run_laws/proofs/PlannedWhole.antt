@@ -19,7 +19,7 @@ use Rattle.module_environ.proofs.Answering.{is_ready}
 use Rattle.translate.specs.Initialised.{IsInitialised}
 use Rattle.translate.specs.Options.{InitOptions, images, passive_bytes}
 use Rattle.plan_run.specs.Finished.{Finished}
-use Rattle.run_laws.proofs.Finishing.{IsPlannedSo, finished}
+use Rattle.run_laws.proofs.Runnable.{IsPlannedSo, finished}
 use Rattle.run_laws.proofs.Translated.{globals-among}
 
 module _ (i : InitOptions) (bytes : List ℕ) (m : Module) (t : ModuleTranslation) (page : IsPowerOfTwo i.page_size) (read : IsReadable bytes m) (keeps : Keeps m)

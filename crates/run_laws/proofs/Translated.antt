@@ -20,7 +20,7 @@ use Rattle.module_environ.proofs.Answering.{globals_split}
 use Rattle.plan_run.specs.Finished.{Finished}
 use Rattle.translate.proofs.Unchanged.{with_memories, with_tables, both-planned}
 use Rattle.run_laws.specs.Planned.{MemoriesArePlanned, TablesArePlanned}
-use Rattle.run_laws.proofs.Finishing.{IsPlannedSo, finished}
+use Rattle.run_laws.proofs.Runnable.{IsPlannedSo, finished}
 
 -- imported globals are among the globals
 pub globals-among : (m : Module) (t : ModuleTranslation) → HasEntities m t → CountsImports m t.module → t.module.num_imported_globals ≤ length t.module.globals

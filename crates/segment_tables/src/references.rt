@@ -16,21 +16,21 @@ use wasm_spec::{ExternalKind, Operator};
 
 /// A part of a module that names functions.
 trait Refers {
-    ghost Seen: { Type 0 };
+    ghost Data: { Type 0 };
 
-    ghost seen: { Self → Seen };
+    ghost as_data: { Self → Data };
 
     /// The functions that it names, in order.
-    ghost names: { Seen → List ℕ };
+    ghost names: { Data → List ℕ };
 
     /// Appends these functions.
     fn push_references(&self, functions: &mut Vec<u32>) -> Result<(), OutOfMemory>
-        ensures { OnOk result (functions.new.items ≡ functions.old.items ++ names (seen self.now)) };
+        ensures { OnOk result (functions.new.items ≡ functions.old.items ++ names (as_data self.now)) };
 }
 
 /// Appends the functions that the parts name.
 fn push_all<T: Refers>(functions: &mut Vec<u32>, parts: &[T]) -> Result<(), OutOfMemory>
-    ensures { OnOk result (functions.new.items ≡ functions.old.items ++ flat_map T.names (map T.seen parts.now)) }
+    ensures { OnOk result (functions.new.items ≡ functions.old.items ++ flat_map T.names (map T.as_data parts.now)) }
 {
     for part in parts {
         part.push_references(functions)?;
@@ -39,9 +39,9 @@ fn push_all<T: Refers>(functions: &mut Vec<u32>, parts: &[T]) -> Result<(), OutO
 }
 
 impl Refers for ConstExpr {
-    ghost Seen = { plain.Expression };
+    ghost Data = { plain.Expression };
 
-    ghost seen = { expression_of };
+    ghost as_data = { expression_of };
 
     ghost names = { referred };
 
@@ -70,9 +70,9 @@ fn push_operator(functions: &mut Vec<u32>, operator: &Operator) -> Result<(), Ou
 }
 
 impl Refers for TableDef {
-    ghost Seen = { plain.TableDef };
+    ghost Data = { plain.TableDef };
 
-    ghost seen = { table_of };
+    ghost as_data = { table_of };
 
     ghost names = { table_references };
 
@@ -85,9 +85,9 @@ impl Refers for TableDef {
 }
 
 impl Refers for GlobalDef {
-    ghost Seen = { plain.GlobalDef };
+    ghost Data = { plain.GlobalDef };
 
-    ghost seen = { global_of };
+    ghost as_data = { global_of };
 
     ghost names = { global_references };
 
@@ -97,9 +97,9 @@ impl Refers for GlobalDef {
 }
 
 impl<'d> Refers for Export<'d> {
-    ghost Seen = { plain.Export };
+    ghost Data = { plain.Export };
 
-    ghost seen = { export_of };
+    ghost as_data = { export_of };
 
     ghost names = { export_references };
 
@@ -113,9 +113,9 @@ impl<'d> Refers for Export<'d> {
 }
 
 impl Refers for ElementItems {
-    ghost Seen = { plain.ElementItems };
+    ghost Data = { plain.ElementItems };
 
-    ghost seen = { items_of };
+    ghost as_data = { items_of };
 
     ghost names = { item_references };
 
@@ -129,9 +129,9 @@ impl Refers for ElementItems {
 }
 
 impl Refers for Element {
-    ghost Seen = { plain.Element };
+    ghost Data = { plain.Element };
 
-    ghost seen = { element_of };
+    ghost as_data = { element_of };
 
     ghost names = { element_references };
 
@@ -144,9 +144,9 @@ impl Refers for Element {
 }
 
 impl<'d> Refers for DataSegment<'d> {
-    ghost Seen = { plain.Segment };
+    ghost Data = { plain.Segment };
 
-    ghost seen = { segment_of };
+    ghost as_data = { segment_of };
 
     ghost names = { data_references };
 
@@ -159,9 +159,9 @@ impl<'d> Refers for DataSegment<'d> {
 }
 
 impl<'d> Refers for Payload<'d> {
-    ghost Seen = { plain.Payload };
+    ghost Data = { plain.Payload };
 
-    ghost seen = { payload_of };
+    ghost as_data = { payload_of };
 
     ghost names = { section_references };
 

@@ -5,7 +5,7 @@ use Rattle.std.proofs.lemmas.List.{flat_map_more}
 use Rattle.std.proofs.lemmas.Bool.{eqb-true, eqb-false}
 use Rattle.wasm_spec.specs.Module as plain
 use Rattle.form_reader.specs.Input.{sections_of_part}
-use Rattle.form_reader.proofs.GroupTakers.{takes_none, takes_sections}
+use Rattle.form_reader.proofs.HeldGroups.{takes_none, takes_sections}
 use Rattle.form_reader.proofs.SectionList.{none_pass, then_pass, all_pass, fail_after}
 use Rattle.form_reader.proofs.sections.sections.Goals as goal
 
@@ -13,7 +13,7 @@ pub parts-init : goal.parts-init
 parts-init g c = record {
   small = omega arith;
   so_far = rw c.new-all.ensures.items (none_pass c.args.start 0 c.args.bytes.now);
-  takes = rw c.new-all.ensures.items (takes_none g.T.TakeGroups.took c.args.taker.now);
+  takes = rw c.new-all.ensures.items (takes_none g.T.GroupSink.holds c.args.sink.now);
 }
 
 pub part-requires-clause-taking : goal.part-requires-clause-taking
@@ -46,7 +46,7 @@ parts-preserved g c =
       small = omega (arith, c.parts.invariant.small, more.1);
       so_far = rw all (then_pass c.args.start 0 c.args.bytes.now _ c.parts.place c.parts.next c.parts.cursor.rest.now c.parts.invariant.so_far
           (sections_of_part c.in_ok-part.part) _ c.part.new.next c.part.new.self.rest.now more.0);
-      takes = rw all (takes_sections g.T.TakeGroups.took _ _ _ (flat_map sections_of_part c.parts.all.items)
+      takes = rw all (takes_sections g.T.GroupSink.holds _ _ _ (flat_map sections_of_part c.parts.all.items)
           (sections_of_part c.in_ok-part.part) c.parts.invariant.takes c.in_ok-part.ensures.takes);
     }
 

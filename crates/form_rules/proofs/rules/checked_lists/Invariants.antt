@@ -13,5 +13,5 @@ abbrev pub invariant-loop-rule : goal.invariant-loop-rule
 invariant-loop-rule l = record {
   kept : (r : Rule) → number_of r < l.rule-index + 2 → Satisfies r (lists_of l.typing.lists.now);
   pooled : IfSome l.names (λ texts. texts ≡ exported_names (lists_of_module (source_module l.source)).exports);
-  distinct : l.asked.distinct ≡ is_some l.names;
+  distinct : l.findings.distinct ≡ is_some l.names;
 }

@@ -2,7 +2,7 @@ use Rattle.form_reader.specs.Views.{composite_of}
 use Rattle.rule_spec.specs.Lists.{kind_at}
 use Rattle.rule_spec.specs.Indices.{TakesAndGivesNothing}
 use Rattle.form_rules.specs.Views.{lists_of}
-use Rattle.form_rules.proofs.KindsAsked.{holds}
+use Rattle.form_rules.proofs.KindFunctions.{holds}
 use Rattle.form_rules.proofs.StartTypes.{nothing-alone}
 use Rattle.form_rules.proofs.start.is_type_of_start.Goals as goal
 

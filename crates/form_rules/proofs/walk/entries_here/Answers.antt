@@ -5,7 +5,7 @@ use Rattle.form_rules.proofs.walk.entries_here.Goals as goal
 
 pub returns-in-Read : goal.returns-in-Read
 returns-in-Read g c =
-    rw (c.in-Read.is, none_there g.E.InputEntry.form _ _ c.none.ensures) (ap (λ (xs : List g.E.InputEntry.Seen). xs ++ []) c.in_payload.ensures)
+    rw (c.in-Read.is, none_there g.E.InputEntry.form _ _ c.none.ensures) (ap (λ (xs : List g.E.InputEntry.Data). xs ++ []) c.in_payload.ensures)
 
 pub returns-in-Customs : goal.returns-in-Customs
 returns-in-Customs g c =

@@ -3,7 +3,7 @@ use Rattle.std.proofs.lemmas.List.{append-nil, map_more}
 use Rattle.std.proofs.lemmas.List.Concat.{flat_map-append}
 use Rattle.wasm_spec.specs.Module.{groups, groups_of_section}
 use Rattle.form_reader.specs.Views.{payload_of, group_of}
-use Rattle.form_types.specs.Taken.{Took}
+use Rattle.form_types.specs.Taken.{IsNumberingOf}
 use Rattle.form_types.proofs.copied.numbering_of_form.Goals as goal
 
 pub loop-payload-preserved : goal.loop-payload-preserved
@@ -17,4 +17,4 @@ loop-payload-preserved c =
     let all : groups front ++ map group_of c.in_payload.result.now ≡ groups (map payload_of (take (k + 1) ps)) =
     ap (λ gs. groups front ++ gs) (c.in_payload.ensures ∙ sym (append-nil (groups_of_section (payload_of p))))
     ∙ sym (flat_map-append groups_of_section front (payload_of p ∷ [])) ∙ ap groups (sym more) in
-    subst (Took c.take_copies.new.numbering) all (c.in_ok-take_copies.ensures (groups front) c.loop-payload.invariant)
+    subst (IsNumberingOf c.push_copies.new.numbering) all (c.in_ok-take_copies.ensures (groups front) c.loop-payload.invariant)

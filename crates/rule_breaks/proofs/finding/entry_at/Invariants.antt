@@ -7,4 +7,4 @@ use Rattle.rule_breaks.proofs.finding.entry_at.Given as goal
 -- the entry has another number among those that remain
 abbrev pub invariant-loop-found : goal.invariant-loop-found
 invariant-loop-found g l =
-    Remaining (flat_map g.T.FormEntry.of_section (source_module l.source)) (entries_left g.T.FormEntry.seen g.T.FormEntry.of_section l.found-iterator) l.entry l.left
+    Remaining (flat_map g.T.FormEntry.of_section (source_module l.source)) (entries_left g.T.FormEntry.as_data g.T.FormEntry.of_section l.found-iterator) l.entry l.left

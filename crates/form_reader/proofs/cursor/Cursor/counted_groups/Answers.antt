@@ -5,14 +5,14 @@ use Rattle.form_reader.specs.ReadingNumbers.{vector_at}
 use Rattle.form_reader.specs.TypeRows.{group}
 use Rattle.form_reader.proofs.Loop.{one_fails_all}
 use Rattle.form_reader.proofs.Listed.{none_holds, further_holds, at_end, holds_at_end}
-use Rattle.form_reader.proofs.GroupTakers.{takes_none, takes_more}
+use Rattle.form_reader.proofs.HeldGroups.{takes_none, takes_more}
 use Rattle.form_reader.proofs.cursor.Cursor.counted_groups.Goals as goal
 
 pub groups-init : goal.groups-init
-groups-init g c = none_holds group.read c.in_ok-count.count c.u32.new.self.rest.now _ (takes_none g.T.TakeGroups.took c.args.taker.now)
+groups-init g c = none_holds group.read c.in_ok-count.count c.u32.new.self.rest.now _ (takes_none g.T.GroupSink.holds c.args.sink.now)
 
-pub take_group-requires : goal.take_group-requires
-take_group-requires g c =
+pub push_group-requires : goal.push_group-requires
+push_group-requires g c =
     let taken = c.requires in
     (taken.0 ++ c.groups.invariant.so_far.front, c.groups.invariant.holds taken.0 taken.1)
 
@@ -21,7 +21,7 @@ groups-preserved g c =
     let x = group_of c.read_into.new.group in
     further_holds group.read c.in_ok-count.count c.groups.counter c.u32.new.self.rest.now c.groups.self.rest.now c.read_into.new.cursor.rest.now
     x _ _ c.groups-test.true c.in_ok-read_into.ensures
-    (λ front takes. takes_more g.T.TakeGroups.took c.args.taker.now c.groups.taker c.take_group.new.self front (x ∷ []) takes c.in_ok-take_group.ensures)
+    (λ front takes. takes_more g.T.GroupSink.holds c.args.sink.now c.groups.sink c.push_group.new.self front (x ∷ []) takes c.in_ok-take_group.ensures)
     c.groups.invariant
 
 pub returns-in_err-read_into-clause-reads : goal.returns-in_err-read_into-clause-reads

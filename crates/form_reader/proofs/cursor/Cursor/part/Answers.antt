@@ -3,7 +3,7 @@ use Rattle.std.proofs.lemmas.Result.{err_from_is_err_and}
 use Rattle.wasm_spec.specs.Module.{groups_of_section}
 use Rattle.form_reader.specs.Input.{input_section_of}
 use Rattle.form_reader.proofs.CustomRuns.{none_listed}
-use Rattle.form_reader.proofs.GroupTakers.{takes_none}
+use Rattle.form_reader.proofs.HeldGroups.{takes_none}
 use Rattle.form_reader.proofs.SectionList.{one_passes, section_shortens, section_fails}
 use Rattle.form_reader.proofs.cursor.Cursor.part.Goals as goal
 
@@ -12,7 +12,7 @@ returns-then-is_at_custom-clause-reads g c = c.in_ok-customs.ensures c.args.plac
 
 pub returns-then-is_at_custom-clause-takes : goal.returns-then-is_at_custom-clause-takes
 returns-then-is_at_custom-clause-takes g c =
-    rw (none_listed groups_of_section (λ name bytes. refl) c.in_ok-customs.field-0) (takes_none g.T.TakeGroups.took c.args.taker.now)
+    rw (none_listed groups_of_section (λ name bytes. refl) c.in_ok-customs.field-0) (takes_none g.T.GroupSink.holds c.args.sink.now)
 
 pub returns-in_err-section-clause-reads : goal.returns-in_err-section-clause-reads
 returns-in_err-section-clause-reads g c =

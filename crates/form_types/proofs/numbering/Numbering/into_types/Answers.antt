@@ -6,7 +6,7 @@ use Rattle.rule_spec.specs.Lists.{declared_groups, lists_of_module}
 use Rattle.rule_spec.specs.TypeRules.{IsDeclaredWell}
 use Rattle.std.proofs.lemmas.List.Elements.{All-weaker}
 use Rattle.form_types.specs.Below.{NamesBelow}
-use Rattle.form_types.specs.Taken.{Took}
+use Rattle.form_types.specs.Taken.{IsNumberingOf}
 use Rattle.form_types.proofs.Ruled.{size-places}
 use Rattle.form_types.proofs.Final.{numbered, well, sound}
 use Rattle.form_types.proofs.numbering.Numbering.into_types.Goals as goal
@@ -14,7 +14,7 @@ use Rattle.form_types.proofs.numbering.Numbering.into_types.Goals.{then-not-self
 
 pub returns-then-not-self-clause-well : goal.returns-then-not-self-clause-well
 returns-then-not-self-clause-well c = λ m took. (λ told. absurd cc, λ all. absurd (fails m took all)) where
-  fails : (m : plain.Module) (took : Took c.args.self (groups m)) → All (IsDeclaredWell (lists_of_module m)) (declared_groups 0 (groups m)) → ⊥
+  fails : (m : plain.Module) (took : IsNumberingOf c.args.self (groups m)) → All (IsDeclaredWell (lists_of_module m)) (declared_groups 0 (groups m)) → ⊥
   fails m took all =
       let below = took.below.1 (All-weaker (IsDeclaredWell (lists_of_module m)) NamesBelow
       (λ d is. record { indices = is.indices; supertype = is.supertype }) (declared_groups 0 (groups m)) all) in
@@ -31,7 +31,7 @@ invariant_of-result c =
     let on = c.if-not-self.false in
     let gs = c.requires.0 in
     let m : plain.Module = plain.Types gs ∷ [] in
-    let took : Took c.args.self (groups m) = subst (Took c.args.self) (sym (append-nil gs)) c.requires.1 in
+    let took : IsNumberingOf c.args.self (groups m) = subst (IsNumberingOf c.args.self) (sym (append-nil gs)) c.requires.1 in
     let b = took.built on in
     let few = took.few on in
     record {

@@ -16,9 +16,9 @@ like k None same = absurd cc
 like k (Some declared) same = (declared, refl, cc)
 
 -- a function of it has the same result for the declared one
-pub asked : {A : Type 0} (f : Kind → A) → ((k : Kind) → f (unnamed k) ≡ f k) → (k : Kind) (o : Option Kind) → Some (unnamed k) ≡ option_map unnamed o
+pub equal-result : {A : Type 0} (f : Kind → A) → ((k : Kind) → f (unnamed k) ≡ f k) → (k : Kind) (o : Option Kind) → Some (unnamed k) ≡ option_map unnamed o
     → Some (f k) ≡ option_map f o
-asked {A = A} f alone k o same =
+equal-result {A = A} f alone k o same =
     let d = like k o same in
     ap (λ (x : A). Some x) (sym (alone k) ∙ ap f d.2 ∙ alone d.0) ∙ ap (option_map f) (sym d.1)
 

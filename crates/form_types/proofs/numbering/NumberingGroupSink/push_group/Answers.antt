@@ -8,7 +8,7 @@ use Rattle.form_types.specs.Keys.{GroupKey, read_key}
 use Rattle.form_types.proofs.Built.{few-ids}
 use Rattle.form_types.proofs.Ruled.{size-places}
 use Rattle.form_types.proofs.Taking.{start-is, last-tells, took-keyed, took-not, took-empty, took-added}
-use Rattle.form_types.proofs.numbering.NumberingTakeGroups.take_group.Goals as goal
+use Rattle.form_types.proofs.numbering.NumberingGroupSink.push_group.Goals as goal
 
 pub returns-then-not-self : goal.returns-then-not-self
 returns-then-not-self c = λ before t.
