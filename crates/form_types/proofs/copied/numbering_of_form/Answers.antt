@@ -17,4 +17,4 @@ loop-payload-preserved c =
     let all : groups front ++ map group_of c.in_payload.result.now ≡ groups (map payload_of (take (k + 1) ps)) =
     ap (λ gs. groups front ++ gs) (c.in_payload.ensures ∙ sym (append-nil (groups_of_section (payload_of p))))
     ∙ sym (flat_map-append groups_of_section front (payload_of p ∷ [])) ∙ ap groups (sym more) in
-    subst (IsNumberingOf c.push_copies.new.numbering) all (c.in_ok-take_copies.ensures (groups front) c.loop-payload.invariant)
+    subst (IsNumberingOf c.push_copies.new.numbering) all (c.in_ok-push_copies.ensures (groups front) c.loop-payload.invariant)

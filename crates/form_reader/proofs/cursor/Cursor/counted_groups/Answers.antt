@@ -21,7 +21,7 @@ groups-preserved g c =
     let x = group_of c.read_into.new.group in
     further_holds group.read c.in_ok-count.count c.groups.counter c.u32.new.self.rest.now c.groups.self.rest.now c.read_into.new.cursor.rest.now
     x _ _ c.groups-test.true c.in_ok-read_into.ensures
-    (λ front takes. takes_more g.T.GroupSink.holds c.args.sink.now c.groups.sink c.push_group.new.self front (x ∷ []) takes c.in_ok-take_group.ensures)
+    (λ front takes. takes_more g.T.GroupSink.holds c.args.sink.now c.groups.sink c.push_group.new.self front (x ∷ []) takes c.in_ok-push_group.ensures)
     c.groups.invariant
 
 pub returns-in_err-read_into-clause-reads : goal.returns-in_err-read_into-clause-reads
