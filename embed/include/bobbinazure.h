@@ -356,26 +356,27 @@ typedef struct {
 } bobbinazure_entities;
 
 /* Where the parts of a context begin, in bytes. A part has an entry for each thing that it is
-   of, in order, each as long as its struct in structs says. An entry of memories and
-   runtime_data_bases is a pointer, and one of runtime_data_lengths has four bytes. Those of
-   func_refs are numbered by escapes. */
+   of, in order: a struct of structs, a pointer or a number. Those of func_refs are numbered by
+   escapes. */
 typedef struct {
-    uint32_t size;                 /* The size of the complete context. */
-    uint32_t imported_memories;    /* The imported memories. */
-    uint32_t memories;             /* The pointers to the definitions of the defined memories. */
-    /* The definitions of the defined memories that are not shared. */
+    uint32_t size;               /* The size of the complete context. */
+    uint32_t imported_memories;  /* The imported memories, each a memory_import. */
+    uint32_t memories;           /* The defined memories, each a pointer to its definition. */
+    /* The owned memories, each a memory_definition: the defined ones that are not shared. */
     uint32_t owned_memories;
-    uint32_t imported_functions;   /* The imported functions. */
-    uint32_t imported_tables;      /* The imported tables. */
-    uint32_t imported_globals;     /* The imported globals. */
-    uint32_t imported_tags;        /* The imported tags. */
-    uint32_t tables;               /* The defined tables. */
-    uint32_t globals;              /* The defined globals. */
-    uint32_t tags;                 /* The defined tags. */
-    uint32_t func_refs;            /* The references to the functions that escape. */
-    uint32_t runtime_data_bases;   /* The pointers to the runtime data. */
-    uint32_t runtime_data_lengths; /* The lengths of the runtime data, in bytes. */
-    /* The reference to the startup function; BOBBINAZURE_NONE where there is none. */
+    uint32_t imported_functions; /* The imported functions, each a function_import. */
+    uint32_t imported_tables;    /* The imported tables, each a table_import. */
+    uint32_t imported_globals;   /* The imported globals, each a global_import. */
+    uint32_t imported_tags;      /* The imported tags, each a tag_import. */
+    uint32_t tables;             /* The defined tables, each a table_definition. */
+    uint32_t globals;            /* The defined globals, each a global_definition of 16 bytes. */
+    uint32_t tags;               /* The defined tags, each a tag_definition. */
+    uint32_t func_refs;          /* The module functions, each a func_ref: those that escape. */
+    uint32_t runtime_data_bases; /* The runtime data base pointers, each a pointer to bytes. */
+    /* The runtime data lengths, each a number of 4 bytes: a length in bytes. */
+    uint32_t runtime_data_lengths;
+    /* The reference to the startup function, a func_ref behind func_refs; BOBBINAZURE_NONE where
+       there is none. */
     uint32_t startup_func_ref;
 } bobbinazure_context;
 

@@ -45,29 +45,24 @@ static void put_slots(const char *name, uint32_t offset, uint64_t count, uint64_
     close_object();
 }
 
+/* How many entries an array has, by what its index counts. */
+#define COUNT_import(array) plan->entities.array
+#define COUNT_defined(array) plan->entities.array - plan->entities.imported_##array
+#define COUNT_owned(array) owned
+#define COUNT_escaping(array) plan->escaped_functions
+#define COUNT_runtime(array) plan->runtime.len
+
 static void put_context_fields(const bobbinazure_plan *plan) {
     const bobbinazure_context *at = &plan->context;
-    const bobbinazure_entities *e = &plan->entities;
-    const bobbinazure_structs *of = &plan->structs;
     uint64_t owned = 0;
-    for (size_t i = e->imported_memories; i < plan->memories.len; i++) owned += !plan->memories.at[i].shared;
+    for (size_t i = plan->entities.imported_memories; i < plan->memories.len; i++) owned += !plan->memories.at[i].shared;
     open_list("fields");
-    put_slots("static_context", 0, 1, of->static_context.size);
-    put_slots("imported_memories", at->imported_memories, e->imported_memories, of->memory_import.size);
-    put_slots("memories", at->memories, e->memories - e->imported_memories, plan->pointer);
-    put_slots("owned_memories", at->owned_memories, owned, of->memory_definition.size);
-    put_slots("imported_functions", at->imported_functions, e->imported_functions, of->function_import.size);
-    put_slots("imported_tables", at->imported_tables, e->imported_tables, of->table_import.size);
-    put_slots("imported_globals", at->imported_globals, e->imported_globals, of->global_import.size);
-    put_slots("imported_tags", at->imported_tags, e->imported_tags, of->tag_import.size);
-    put_slots("tables", at->tables, e->tables - e->imported_tables, of->table_definition.size);
-    put_slots("globals", at->globals, e->globals - e->imported_globals, of->global_definition.size);
-    put_slots("tags", at->tags, e->tags - e->imported_tags, of->tag_definition.size);
-    put_slots("func_refs", at->func_refs, plan->escaped_functions, of->func_ref.size);
-    if (at->startup_func_ref != BOBBINAZURE_NONE)
-        put_slots("startup_func_ref", at->startup_func_ref, 1, of->func_ref.size);
-    put_slots("runtime_data_bases", at->runtime_data_bases, plan->runtime.len, plan->pointer);
-    put_slots("runtime_data_lengths", at->runtime_data_lengths, plan->runtime.len, sizeof(uint32_t));
+    put_slots("static_context", 0, 1, plan->structs.static_context.size);
+#define EACH(array, index, item_size) put_slots(#array, at->array, COUNT_##index(array), item_size);
+#define ONE(entry, item_size) if (at->entry != BOBBINAZURE_NONE) put_slots(#entry, at->entry, 1, item_size);
+    CONTEXT_ENTRIES(EACH, ONE)
+#undef EACH
+#undef ONE
     close_list();
 }
 

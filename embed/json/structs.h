@@ -1,8 +1,26 @@
-/* The structs that compiled code reads, as JSON. Made by embed/generate. */
+/* The structs that compiled code reads, as JSON, and the entries of a context. Made by embed/generate. */
 #ifndef STRUCTS_H
 #define STRUCTS_H
 
 #include "writer.h"
+
+/* Each entry of a context, and the size of an item by `plan`: EACH array, with what its index
+   counts, and ONE struct that may be absent. */
+#define CONTEXT_ENTRIES(EACH, ONE) \
+    EACH(imported_memories, import, plan->structs.memory_import.size) \
+    EACH(memories, defined, plan->pointer) \
+    EACH(owned_memories, owned, plan->structs.memory_definition.size) \
+    EACH(imported_functions, import, plan->structs.function_import.size) \
+    EACH(imported_tables, import, plan->structs.table_import.size) \
+    EACH(imported_globals, import, plan->structs.global_import.size) \
+    EACH(imported_tags, import, plan->structs.tag_import.size) \
+    EACH(tables, defined, plan->structs.table_definition.size) \
+    EACH(globals, defined, plan->structs.global_definition.size) \
+    EACH(tags, defined, plan->structs.tag_definition.size) \
+    EACH(func_refs, escaping, plan->structs.func_ref.size) \
+    ONE(startup_func_ref, plan->structs.func_ref.size) \
+    EACH(runtime_data_bases, runtime, plan->pointer) \
+    EACH(runtime_data_lengths, runtime, 4)
 
 static void put_structs(const bobbinazure_structs *structs) {
     open_object("structs");

@@ -3,6 +3,10 @@
 //! `embed/generate` makes the structs of C and Rust from this file: a struct's comment ends with
 //! its name in C, a field's with its name in C where that is another one, and the rest is its
 //! comment there. A `u8` whose comment begins with `Whether` is a `bool` in Rust.
+//!
+//! An array of `Context` has a comment in two parts. The first names its region, and says what each
+//! entry is: a struct of `structs`, a pointer or a number. The second is for the method of Rust that
+//! tells where an entry begins. It ends with that method and what its index counts.
 
 /// How many entities of each kind there are, imported ones among them, and how many are
 /// imported: `bobbinazure_entities`.
@@ -65,41 +69,56 @@ pub struct Facts {
 }
 
 /// Where the parts of a context begin, in bytes. A part has an entry for each thing that it is of, in
-/// order, each as long as its struct in `structs` says. An entry of `memories` and
-/// `runtime_data_bases` is a pointer, and one of `runtime_data_lengths` has four bytes. Those of
-/// `func_refs` are numbered by `escapes`: `bobbinazure_context`.
+/// order: a struct of `structs`, a pointer or a number. Those of `func_refs` are numbered by
+/// `escapes`: `bobbinazure_context`.
 #[repr(C)]
 #[derive(Clone, Copy)]
 pub struct Context {
     /// The size of the complete context.
     pub size: u32,
-    /// The imported memories.
+    /// The imported memories, each a `memory_import`.
+    /// The import of a memory: `vmctx_vmmemory_import(import)`.
     pub imported_memories: u32,
-    /// The pointers to the definitions of the defined memories.
+    /// The defined memories, each a pointer to its definition.
+    /// The pointer to the definition of a memory: `vmctx_vmmemory_pointer(defined)`.
     pub memories: u32,
-    /// The definitions of the defined memories that are not shared.
+    /// The owned memories, each a `memory_definition`: the defined ones that are not shared.
+    /// The definition of a memory that is not shared, by its number among those that the module
+    /// defines: `vmctx_vmmemory_definition(owned)`.
     pub owned_memories: u32,
-    /// The imported functions.
+    /// The imported functions, each a `function_import`.
+    /// The import of a function: `vmctx_vmfunction_import(import)`.
     pub imported_functions: u32,
-    /// The imported tables.
+    /// The imported tables, each a `table_import`.
+    /// The import of a table: `vmctx_vmtable_import(import)`.
     pub imported_tables: u32,
-    /// The imported globals.
+    /// The imported globals, each a `global_import`.
+    /// The import of a global: `vmctx_vmglobal_import(import)`.
     pub imported_globals: u32,
-    /// The imported tags.
+    /// The imported tags, each a `tag_import`.
+    /// The import of a tag: `vmctx_vmtag_import(import)`.
     pub imported_tags: u32,
-    /// The defined tables.
+    /// The defined tables, each a `table_definition`.
+    /// The definition of a table: `vmctx_vmtable_definition(defined)`.
     pub tables: u32,
-    /// The defined globals.
+    /// The defined globals, each a `global_definition` of 16 bytes.
+    /// The definition of a global: `vmctx_vmglobal_definition(defined)`.
     pub globals: u32,
-    /// The defined tags.
+    /// The defined tags, each a `tag_definition`.
+    /// The definition of a tag: `vmctx_vmtag_definition(defined)`.
     pub tags: u32,
-    /// The references to the functions that escape.
+    /// The module functions, each a `func_ref`: those that escape.
+    /// A reference to a function, by its number among the functions that escape:
+    /// `vmctx_vmfunc_ref(escaping)`.
     pub func_refs: u32,
-    /// The pointers to the runtime data.
+    /// The runtime data base pointers, each a pointer to bytes.
+    /// The pointer to the bytes of a runtime data: `vmctx_runtime_data_base(runtime)`.
     pub runtime_data_bases: u32,
-    /// The lengths of the runtime data, in bytes.
+    /// The runtime data lengths, each a number of 4 bytes: a length in bytes.
+    /// The length of a runtime data, a number of 32 bits: `vmctx_runtime_data_length(runtime)`.
     pub runtime_data_lengths: u32,
-    /// The reference to the startup function; `u32::MAX` where there is none.
+    /// The reference to the startup function, a `func_ref` behind `func_refs`; `u32::MAX` where there
+    /// is none.
     pub startup_func_ref: u32,
 }
 

@@ -83,41 +83,41 @@ pub struct Entities {
 }
 
 /// Where the parts of a context begin, in bytes. A part has an entry for each thing that it is of,
-/// in order, each as long as its struct in `structs` says. An entry of `memories` and
-/// `runtime_data_bases` is a pointer, and one of `runtime_data_lengths` has four bytes. Those of
-/// `func_refs` are numbered by `escapes`.
+/// in order: a struct of `structs`, a pointer or a number. Those of `func_refs` are numbered by
+/// `escapes`.
 #[repr(C)]
 #[derive(Clone, Copy, Debug, PartialEq, Eq, Hash, Default)]
 pub struct Context {
     /// The size of the complete context.
     pub size: u32,
-    /// The imported memories.
+    /// The imported memories, each a `memory_import`.
     pub imported_memories: u32,
-    /// The pointers to the definitions of the defined memories.
+    /// The defined memories, each a pointer to its definition.
     pub memories: u32,
-    /// The definitions of the defined memories that are not shared.
+    /// The owned memories, each a `memory_definition`: the defined ones that are not shared.
     pub owned_memories: u32,
-    /// The imported functions.
+    /// The imported functions, each a `function_import`.
     pub imported_functions: u32,
-    /// The imported tables.
+    /// The imported tables, each a `table_import`.
     pub imported_tables: u32,
-    /// The imported globals.
+    /// The imported globals, each a `global_import`.
     pub imported_globals: u32,
-    /// The imported tags.
+    /// The imported tags, each a `tag_import`.
     pub imported_tags: u32,
-    /// The defined tables.
+    /// The defined tables, each a `table_definition`.
     pub tables: u32,
-    /// The defined globals.
+    /// The defined globals, each a `global_definition` of 16 bytes.
     pub globals: u32,
-    /// The defined tags.
+    /// The defined tags, each a `tag_definition`.
     pub tags: u32,
-    /// The references to the functions that escape.
+    /// The module functions, each a `func_ref`: those that escape.
     pub func_refs: u32,
-    /// The pointers to the runtime data.
+    /// The runtime data base pointers, each a pointer to bytes.
     pub runtime_data_bases: u32,
-    /// The lengths of the runtime data, in bytes.
+    /// The runtime data lengths, each a number of 4 bytes: a length in bytes.
     pub runtime_data_lengths: u32,
-    /// The reference to the startup function; `u32::MAX` where there is none.
+    /// The reference to the startup function, a `func_ref` behind `func_refs`; `u32::MAX` where
+    /// there is none.
     pub startup_func_ref: u32,
 }
 

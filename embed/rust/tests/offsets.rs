@@ -21,30 +21,23 @@ const EACH_TWICE: &[u8] = &[
     0x0B, 0x07, 0x02, 0x01, 0x01, 0x07, 0x01, 0x01, 0x08, // data
 ];
 
+type Offset = fn(&Plan, u32) -> u32;
+
 #[test]
 fn entries_fill_their_regions() {
     for pointer in [4, 8] {
         let options = Options { pointer, guest_debug: true, ..Options::default() };
         let plan = Plan::new(EACH_TWICE, &options).expect("it is planned");
-        type Offset = fn(&Plan, u32) -> u32;
-        let entries: [(&str, u32, Offset); 14] = [
-            ("imported memories", 2, |plan, index| plan.vmctx_vmmemory_import(index)),
-            ("defined memories", 2, |plan, index| plan.vmctx_vmmemory_pointer(index)),
-            ("owned memories", 2, |plan, index| plan.vmctx_vmmemory_definition(index)),
-            ("imported functions", 2, |plan, index| plan.vmctx_vmfunction_import(index)),
-            ("imported tables", 2, |plan, index| plan.vmctx_vmtable_import(index)),
-            ("imported globals", 2, |plan, index| plan.vmctx_vmglobal_import(index)),
-            ("imported tags", 2, |plan, index| plan.vmctx_vmtag_import(index)),
-            ("defined tables", 2, |plan, index| plan.vmctx_vmtable_definition(index)),
-            ("defined globals", 2, |plan, index| plan.vmctx_vmglobal_definition(index)),
-            ("defined tags", 2, |plan, index| plan.vmctx_vmtag_definition(index)),
-            ("module functions", 4, |plan, index| plan.vmctx_vmfunc_ref(index)),
-            ("startup funcref", 0, |plan, _| plan.startup_func_ref().unwrap_or(plan.offsets().runtime_data_bases)),
-            ("runtime data base pointers", 2, |plan, index| plan.vmctx_runtime_data_base(index)),
-            ("runtime data lengths", 2, |plan, index| plan.vmctx_runtime_data_length(index)),
-        ];
-        assert_eq!(plan.regions().len(), entries.len() + 1);
-        for (name, count, offset) in entries {
+        let startup: Offset = |plan, _| plan.startup_func_ref().unwrap_or(plan.offsets().runtime_data_bases);
+        let startup = ("startup funcref", "startup", startup);
+        // Two regions are no arrays: the startup funcref, and what all modules have.
+        assert_eq!(plan.regions().len(), Plan::ARRAYS.len() + 2);
+        for (name, index, offset) in Plan::ARRAYS.into_iter().chain([startup]) {
+            let count = match index {
+                "startup" => 0,
+                "escaping" => 4,
+                _ => 2,
+            };
             let region = plan.regions().find(|region| region.name == name).expect("a region");
             let (begin, end) = (offset(&plan, 0), offset(&plan, count));
             assert_eq!(begin, region.begin, "{name}");
